@@ -1,0 +1,28 @@
+//! `mld`: decodes and checks IEEE 802.11be elements given as hex lines.
+//!
+//! It reads standard input, writes standard output, and ends with the status of the run.
+#![tactic(auto)]
+
+use std::env::{self, Env};
+use std::io;
+use std::io::Write;
+use std::process::ExitCode;
+use wl_io::{StdSink, StdSource};
+use wl_top::mld_run;
+
+/// The words behind the program's name.
+fn words(rt: &(impl Env + AllocGlobal)) -> io::Result<Vec<String>> {
+    let mut words = Vec::new(rt.alloc());
+    for word in env::args(rt)?.skip(1) {
+        words.push(word)?;
+    }
+    Ok(words)
+}
+
+fn main(rt: HostRuntime) -> io::Result<ExitCode> {
+    let words = words(&rt)?;
+    let mut source = StdSource::new(rt.stdin());
+    let mut sink = StdSink::new(rt.stdout());
+    let outcome = mld_run(rt.alloc(), words.as_slice(), &mut source, &mut sink);
+    Ok(ExitCode::from(outcome.status))
+}

@@ -1,0 +1,6 @@
+pub mod Joining
+pub mod Once
+pub mod Lists
+pub mod Decoding
+pub mod Total
+pub mod Writing

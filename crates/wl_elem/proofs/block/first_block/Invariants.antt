@@ -1,0 +1,9 @@
+use Rattle.std.proofs.Common.{length}
+use Rattle.wl_elem.proofs.Joining.{Joins}
+use Rattle.wl_elem.proofs.block.first_block.Given as goal
+
+abbrev pub invariant-fragments : goal.invariant-fragments
+invariant-fragments l = Joins l.kind l.id l.information.items l.full l.input l.rest
+
+abbrev pub decreases-fragments : goal.decreases-fragments
+decreases-fragments l = length l.rest

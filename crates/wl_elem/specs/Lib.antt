@@ -1,0 +1,10 @@
+pub mod Why
+pub mod Answers
+pub mod Cutting
+pub mod Element
+pub mod Row
+pub mod ElementList
+pub mod Block
+pub mod Encoding
+pub mod Finding
+pub mod Octets

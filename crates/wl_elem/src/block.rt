@@ -1,0 +1,88 @@
+//! Items of a list: the first piece and the Fragments that continue it, joined.
+
+ghost use Rattle.std.specs.Prelude.{◌≡◌, ◌<◌, length, IfOk, IfErr};
+ghost use Rattle.wl_elem.specs.Block.{begins_with_fragment, IsTaken, IsStopped};
+ghost use Rattle.wl_elem.specs.declared.block.Stop.TheVariants.{Memory};
+
+use crate::kind::ListKind;
+use crate::piece::first_piece;
+use crate::why::Why;
+use std::alloc::{AllocError, Global};
+
+/// The item at the front of some octets, and what follows it.
+#[derive(Drop)]
+pub struct Block<'a> {
+    /// The ID of its first piece.
+    pub id: u8,
+    /// The octets of its pieces, joined.
+    pub information: Vec<u8>,
+    /// The octets after its last piece.
+    pub rest: &'a [u8],
+}
+
+/// Why no item was read.
+#[derive(Clone, Copy, Debug, PartialEq, Eq)]
+pub enum Stop {
+    /// A piece is refused where so many octets are left.
+    CutOff { left: usize, why: Why },
+    /// There was no memory for the information.
+    Memory,
+}
+
+impl From<AllocError> for Stop {
+    ghost from_gives = { λ _ e. e ≡ Memory };
+
+    fn from(_e: AllocError) -> Stop {
+        Stop::Memory
+    }
+}
+
+/// Whether the octets begin with a header of a Fragment.
+fn begins_with_fragment(kind: ListKind, octets: &[u8]) -> bool
+    ensures { result ≡ begins_with_fragment kind octets.now }
+{
+    match octets {
+        [id, _, ..] => *id == kind.fragment_id(),
+        _ => false,
+    }
+}
+
+/// The first item of a list. A piece of Length 255 that a Fragment follows is continued by it.
+pub fn first_block(alloc: Global, kind: ListKind, input: &[u8]) -> Result<Block<'_>, Stop>
+    requires { 0 < length input.now }
+    ensures taken { IfOk result (λ b. IsTaken kind b.id b.information.items b.rest.now input.now) }
+    ensures stopped { IfErr result (λ stop. IsStopped kind input.now stop) }
+{
+    let first = match first_piece(kind, false, input) {
+        Ok(piece) => piece,
+        Err(why) => {
+            return Err(Stop::CutOff {
+                left: input.len(),
+                why,
+            });
+        }
+    };
+    let id = first.id;
+    let mut information = Vec::from_slice(alloc, first.octets)?;
+    let mut full = first.octets.len() == 255;
+    let mut rest = first.rest;
+    'fragments: while full && begins_with_fragment(kind, rest) {
+        let next = match first_piece(kind, true, rest) {
+            Ok(piece) => piece,
+            Err(why) => {
+                return Err(Stop::CutOff {
+                    left: rest.len(),
+                    why,
+                });
+            }
+        };
+        information.extend_from_slice(next.octets)?;
+        full = next.octets.len() == 255;
+        rest = next.rest;
+    }
+    Ok(Block {
+        id,
+        information,
+        rest,
+    })
+}

@@ -1,0 +1,72 @@
+//! Lists of elements.
+
+ghost use Rattle.std.specs.Prelude.{◌≡◌, ◌==◌, ◌<◌, ◌^◌, ◌++◌, ◌∷◌, [], length, List, OnOk, OnErr, slice_get, option_copied};
+
+use crate::element::Element;
+use crate::fault::Memory;
+use std::alloc::Global;
+use std::marker::Model;
+
+/// A list of elements, in order.
+#[derive(Debug, Drop)]
+pub struct Elements {
+    list: Vec<Element>,
+}
+
+impl Model for Elements {
+    ghost use Rattle.std.specs.Prelude.{List};
+    ghost use Rattle.wl_elem.specs.Element.{ElementValue};
+
+    ghost Value = { List ElementValue };
+
+    ghost view = { λ e. e.list.items };
+}
+
+impl Elements {
+    /// No elements. It takes no memory.
+    pub fn new(alloc: Global) -> Elements
+        ensures { result ≡ [] }
+    {
+        Elements {
+            list: Vec::new(alloc),
+        }
+    }
+
+    /// Adds an element at the end. After `Memory` the list is as it was.
+    pub fn push(&mut self, e: Element) -> Result<(), Memory>
+        ensures ok { OnOk result (self.new ≡ self.old ++ e ∷ []) }
+        ensures err { OnErr result (self.new ≡ self.old) }
+    {
+        self.list.push(e)?;
+        Ok(())
+    }
+
+    /// How many elements there are.
+    pub fn len(&self) -> u32
+        requires { length self.now < 2 ^ 32 }
+        ensures { result ≡ length self.now }
+    {
+        self.list.len() as u32
+    }
+
+    /// Whether there are none.
+    pub fn is_empty(&self) -> bool
+        ensures { result ≡ (length self.now == 0) }
+    {
+        self.list.is_empty()
+    }
+
+    /// The element at an index. None exactly from the length up.
+    pub fn get(&self, i: u32) -> Option<&Element>
+        ensures { option_copied result ≡ slice_get self.now i }
+    {
+        self.list.get(i as usize)
+    }
+
+    /// The elements as a slice.
+    pub fn as_slice(&self) -> &[Element]
+        ensures { result.now ≡ self.now }
+    {
+        self.list.as_slice()
+    }
+}

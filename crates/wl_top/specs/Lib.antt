@@ -1,0 +1,6 @@
+pub mod Text
+pub mod Line
+pub mod TtlmText
+pub mod Shown
+pub mod Decoded
+pub mod Run

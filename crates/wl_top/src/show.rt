@@ -1,0 +1,84 @@
+//! Shown texts: refusals, elements and their parts.
+
+ghost use Rattle.std.specs.Prelude.{◌≡◌, ◌++◌, OnOk};
+ghost use Rattle.std.specs.String.{string_bytes};
+ghost use Rattle.hex.specs.Hex.{encode_lower};
+ghost use Rattle.wl_top.specs.Text.{optional, index_text, refused_text, name_text, element_text};
+
+use std::alloc::Global;
+use wl_elem::{Element, Memory, Refusal};
+
+/// Adds an index of a refusal under its name, where it is there.
+fn push_index(out: &mut String, name: &str, index: Option<u32>) -> Result<(), Memory>
+    ensures { OnOk result (string_bytes out.new ≡ string_bytes out.old ++ index_text name.now index) }
+{
+    match index {
+        Some(i) => {
+            write!(out, "{name}{i}")?;
+            Ok(())
+        }
+        None => Ok(()),
+    }
+}
+
+/// Adds the text of a refusal: its indices where they are there, its place and its name.
+pub fn push_refusal(out: &mut String, refusal: &Refusal) -> Result<(), Memory>
+    ensures { OnOk result (string_bytes out.new ≡ string_bytes out.old ++ refused_text refusal.now) }
+{
+    out.push_str("refused")?;
+    push_index(out, " element=", refusal.element)?;
+    push_index(out, " sub=", refusal.sub)?;
+    push_index(out, " inner=", refusal.inner)?;
+    write!(out, " place={} {}", refusal.place, refusal.why.name())?;
+    Ok(())
+}
+
+/// Adds a number in decimal, or `-` where there is none.
+pub fn push_optional(out: &mut String, value: Option<u32>) -> Result<(), Memory>
+    ensures { OnOk result (string_bytes out.new ≡ string_bytes out.old ++ optional value) }
+{
+    match value {
+        Some(n) => {
+            write!(out, "{n}")?;
+            Ok(())
+        }
+        None => {
+            out.push('-')?;
+            Ok(())
+        }
+    }
+}
+
+/// Adds octets as lower case hex digits.
+pub fn push_hex(alloc: Global, out: &mut String, octets: &[u8]) -> Result<(), Memory>
+    ensures { OnOk result (string_bytes out.new ≡ string_bytes out.old ++ encode_lower octets.now) }
+{
+    let digits = hex::encode(alloc, octets)?;
+    out.push_str(digits.as_str())?;
+    Ok(())
+}
+
+/// Adds the name of an element: `eID`, or `e255.EXT`.
+fn push_name(out: &mut String, id: u8, ext: Option<u8>) -> Result<(), Memory>
+    ensures { OnOk result (string_bytes out.new ≡ string_bytes out.old ++ name_text id ext) }
+{
+    match ext {
+        Some(ext) => {
+            write!(out, "e{id}.{ext}")?;
+            Ok(())
+        }
+        None => {
+            write!(out, "e{id}")?;
+            Ok(())
+        }
+    }
+}
+
+/// Adds an element as its name and its body.
+pub fn push_element(alloc: Global, out: &mut String, e: &Element) -> Result<(), Memory>
+    ensures { OnOk result (string_bytes out.new ≡ string_bytes out.old ++ element_text e.now) }
+{
+    push_name(out, e.id(), e.ext())?;
+    out.push(':')?;
+    push_hex(alloc, out, e.body())
+}

@@ -1,0 +1,274 @@
+use super::*;
+use std::alloc::Global;
+use std::test::Fail;
+use wl_elem::Bytes;
+use wl_io::{Calls, MemSink, MemSource};
+
+/// What a run over memory answers: its outcome, and what the sink took.
+#[derive(Drop)]
+struct Ran {
+    outcome: Outcome,
+    written: String,
+}
+
+/// No call fails.
+fn none(alloc: Global) -> Calls {
+    Calls::new(alloc)
+}
+
+/// The call of this number fails.
+fn only(alloc: Global, number: u64) -> Result<Calls, Fail> {
+    let mut calls = Calls::new(alloc);
+    calls.push(number)?;
+    Ok(calls)
+}
+
+/// Runs words over an input, where some reads and writes fail.
+fn run_failing(
+    alloc: Global,
+    words: &[&str],
+    input: &[u8],
+    reads: Calls,
+    writes: Calls,
+) -> Result<Ran, Fail> {
+    let mut given = Vec::new(alloc);
+    for word in words {
+        given.push(String::from_str(alloc, word)?)?;
+    }
+    let mut source = MemSource::new(Bytes::from_slice(alloc, input)?, reads, 10);
+    let mut sink = MemSink::new(alloc, writes, 10);
+    let outcome = mld_run(alloc, given.as_slice(), &mut source, &mut sink);
+    let taken = Vec::from_slice(alloc, sink.taken())?;
+    let written = String::from_utf8(taken).ok().ok_or("the text is ASCII")?;
+    Ok(Ran { outcome, written })
+}
+
+fn decode(alloc: Global, input: &[u8]) -> Result<Ran, Fail> {
+    run_failing(alloc, &["decode"], input, none(alloc), none(alloc))
+}
+
+#[test]
+fn lines_are_shown(rt: HostRuntime) -> Result<(), Fail> {
+    let lines = [
+        (
+            "ff026d06",
+            "ok ttlm(dir=2,default=1,spare=0,narrow=0,switch=-,duration=-,map=-,tail=)",
+        ),
+        (
+            "ff056d21090102",
+            "ok ttlm(dir=1,default=0,spare=0,narrow=1,switch=-,duration=-,map=0:1+3:2,tail=)",
+        ),
+        (
+            "ff0a6d1a0134120100000300",
+            "ok ttlm(dir=2,default=0,spare=0,narrow=0,switch=4660,duration=1,map=0:3,tail=)",
+        ),
+        ("ff036d0308", "refused element=0 place=0 ReservedDirection"),
+        ("ff056d210901", "refused place=0 Truncated"),
+        ("\r", "ok"),
+        // Sparse presence bits: TIDs 0 and 7, and the same two octets short.
+        (
+            "ff076d008103000100",
+            "ok ttlm(dir=0,default=0,spare=0,narrow=0,switch=-,duration=-,map=0:3+7:1,tail=)",
+        ),
+        ("ff056d00810300", "refused element=0 place=4 Truncated"),
+        // Other elements are shown as octets, an unknown rest of a mapping element as its tail.
+        ("0003616263", "ok e0:616263"),
+        ("0000dd03AABBCC", "ok e0: e221:aabbcc"),
+        (
+            "elements ff0238ddff056d4602aabb",
+            "ok e255.56:dd ttlm(dir=2,default=1,spare=1,narrow=0,switch=-,duration=-,map=-,tail=02aabb)",
+        ),
+        // The first refusal in the list's order.
+        (
+            "0000ff026d03ff016b",
+            "refused element=1 place=0 ReservedDirection",
+        ),
+        ("0000ff016bff026d03", "refused element=1 place=0 NotBuilt"),
+        ("f20100", "refused place=0 StrayFragment"),
+        ("0001aaf20100", "refused place=3 StrayFragment"),
+        ("ff00", "refused place=0 NoExtension"),
+        // Kinds that aren't shown yet.
+        ("action 250001", "refused place=0 NotBuilt"),
+        ("assoc-ask ", "refused place=0 NotBuilt"),
+        ("assoc-reply 00", "refused place=0 NotBuilt"),
+        ("frame 88", "refused place=0 NotBuilt"),
+    ];
+    for (line, shown) in lines {
+        let ran = decode(rt.alloc(), line.as_bytes())?;
+        assert_eq!(rt; ran.outcome.status, 0, "at {line}");
+        assert_eq!(rt; ran.outcome.place, 0, "at {line}");
+        let want = format!(in rt.alloc(); "{shown}\n")?;
+        assert_eq!(rt; ran.written.as_str(), want.as_str(), "at {line}");
+    }
+    Ok(())
+}
+
+#[test]
+fn cut_elements_are_refused_at_their_field(rt: HostRuntime) -> Result<(), Fail> {
+    // One element with every field, its body cut after 0 to 8 octets.
+    let bodies = [
+        ("ff016d", 0),
+        ("ff026d1a", 1),
+        ("ff036d1a01", 2),
+        ("ff046d1a0134", 2),
+        ("ff056d1a013412", 4),
+        ("ff066d1a01341201", 4),
+        ("ff076d1a0134120100", 4),
+        ("ff086d1a013412010000", 7),
+        ("ff096d1a01341201000003", 7),
+    ];
+    for (line, place) in bodies {
+        let ran = decode(rt.alloc(), line.as_bytes())?;
+        let want = format!(in rt.alloc(); "refused element=0 place={place} Truncated\n")?;
+        assert_eq!(rt; ran.written.as_str(), want.as_str(), "at {line}");
+    }
+    // The same line cut after 1 to 23 digits.
+    let whole = b"ff0a6d1a0134120100000300";
+    for digits in 1..24usize {
+        let ran = decode(rt.alloc(), &whole[..digits])?;
+        if digits % 2 == 0 {
+            assert_eq!(rt;
+                ran.written.as_str(),
+                "refused place=0 Truncated\n",
+                "at {digits}"
+            );
+        } else {
+            assert_eq!(rt; ran.outcome.status, 2, "at {digits}");
+            assert_eq!(rt; ran.outcome.place, 1, "at {digits}");
+            assert_eq!(rt; ran.written.as_str(), "", "at {digits}");
+        }
+    }
+    Ok(())
+}
+
+/// A line of an element of ID 221 with so many zero octets in its first piece, and more digits.
+fn long_line(alloc: Global, header: &str, octets: usize, more: &str) -> Result<String, Fail> {
+    let mut line = String::from_str(alloc, header)?;
+    for _ in 0..octets {
+        line.push_str("00")?;
+    }
+    line.push_str(more)?;
+    Ok(line)
+}
+
+#[test]
+fn fragments_are_joined(rt: HostRuntime) -> Result<(), Fail> {
+    let alloc = rt.alloc();
+    let one = decode(alloc, long_line(alloc, "ddff", 255, "")?.as_bytes())?;
+    assert_eq!(rt;
+        one.written.as_str(),
+        long_line(alloc, "ok e221:", 255, "\n")?.as_str()
+    );
+    let two = decode(alloc, long_line(alloc, "ddff", 255, "f20100")?.as_bytes())?;
+    assert_eq!(rt;
+        two.written.as_str(),
+        long_line(alloc, "ok e221:", 256, "\n")?.as_str()
+    );
+    let empty = decode(alloc, long_line(alloc, "ddff", 255, "f200")?.as_bytes())?;
+    assert_eq!(rt; empty.written.as_str(), "refused place=257 EmptyFragment\n");
+    let short = decode(alloc, long_line(alloc, "ddfe", 254, "f20100")?.as_bytes())?;
+    assert_eq!(rt; short.written.as_str(), "refused place=256 StrayFragment\n");
+    Ok(())
+}
+
+#[test]
+fn lines_are_split(rt: HostRuntime) -> Result<(), Fail> {
+    let inputs = [
+        ("", ""),
+        ("\n", "ok\n"),
+        ("\n\n", "ok\nok\n"),
+        ("0000\r\n0000", "ok e0:\nok e0:\n"),
+        ("0000\n\r", "ok e0:\nok\n"),
+    ];
+    for (input, text) in inputs {
+        let ran = decode(rt.alloc(), input.as_bytes())?;
+        assert_eq!(rt; ran.outcome.status, 0, "at {input:?}");
+        assert_eq!(rt; ran.written.as_str(), text, "at {input:?}");
+    }
+    Ok(())
+}
+
+#[test]
+fn what_is_no_hex_line_is_refused_by_its_number(rt: HostRuntime) -> Result<(), Fail> {
+    let inputs = [
+        ("xy", 1),
+        ("000", 1),
+        ("0000\n0g\nxy", 2),
+        ("0000\r\r\n", 1),
+        ("actions 00", 1),
+        ("action  00", 1),
+        ("action00", 1),
+        ("action", 1),
+        (" 00", 1),
+        ("00 ", 1),
+        ("0000\nFRAME 00", 2),
+    ];
+    for (input, place) in inputs {
+        let ran = decode(rt.alloc(), input.as_bytes())?;
+        assert_eq!(rt; ran.outcome.status, 2, "at {input}");
+        assert_eq!(rt; ran.outcome.place, place, "at {input}");
+        assert_eq!(rt; ran.written.as_str(), "", "at {input}");
+    }
+    Ok(())
+}
+
+#[test]
+fn words_other_than_a_command_are_usage(rt: HostRuntime) -> Result<(), Fail> {
+    let alloc = rt.alloc();
+    let none_given = run_failing(alloc, &[], b"0000", none(alloc), none(alloc))?;
+    assert_eq!(rt; none_given.outcome.status, 1);
+    assert_eq!(rt; none_given.written.as_str(), "");
+    let other = run_failing(alloc, &["check"], b"0000", none(alloc), none(alloc))?;
+    assert_eq!(rt; other.outcome.status, 1);
+    let two = run_failing(
+        alloc,
+        &["decode", "decode"],
+        b"0000",
+        none(alloc),
+        none(alloc),
+    )?;
+    assert_eq!(rt; two.outcome.status, 1);
+    assert_eq!(rt; two.outcome.place, 0);
+    Ok(())
+}
+
+#[test]
+fn failing_reads_and_writes_end_the_run(rt: HostRuntime) -> Result<(), Fail> {
+    let alloc = rt.alloc();
+    let input = b"ff026d06\n0003616263\n";
+    // 19 octets in reads of 10: two of them, and one that finds the end.
+    for call in 0..3u64 {
+        let ran = run_failing(alloc, &["decode"], input, only(alloc, call)?, none(alloc))?;
+        assert_eq!(rt; ran.outcome.status, 3, "at {call}");
+        assert_eq!(rt; ran.outcome.place, 0, "at {call}");
+        assert_eq!(rt; ran.written.as_str(), "", "at {call}");
+    }
+    let whole = decode(alloc, input)?;
+    assert_eq!(rt; whole.written.len(), 87);
+    for call in 0..9u64 {
+        let ran = run_failing(alloc, &["decode"], input, none(alloc), only(alloc, call)?)?;
+        assert_eq!(rt; ran.outcome.status, 4, "at {call}");
+        assert_eq!(rt; ran.outcome.place, call * 10, "at {call}");
+        assert_eq!(rt; ran.written.len() as u64, call * 10, "at {call}");
+        assert!(rt;
+            whole.written.as_str().starts_with(ran.written.as_str()),
+            "at {call}"
+        );
+    }
+    Ok(())
+}
+
+#[test]
+fn an_input_above_the_limit_is_too_long(rt: HostRuntime) -> Result<(), Fail> {
+    let alloc = rt.alloc();
+    let mut words = Vec::new(alloc);
+    words.push(String::from_str(alloc, "decode")?)?;
+    let bytes = Bytes::from_vec(vec![in alloc; b'0'; 16_777_217]?);
+    let mut source = MemSource::new(bytes, Calls::new(alloc), 65_536);
+    let mut sink = MemSink::new(alloc, Calls::new(alloc), 65_536);
+    let outcome = mld_run(alloc, words.as_slice(), &mut source, &mut sink);
+    assert_eq!(rt; outcome.status, 8);
+    assert_eq!(rt; outcome.place, 16_777_217);
+    assert_eq!(rt; sink.taken().len(), 0);
+    Ok(())
+}

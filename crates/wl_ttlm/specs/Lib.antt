@@ -1,0 +1,4 @@
+pub mod Fields
+pub mod Ttlm
+pub mod Reading
+pub mod Fitting

@@ -1,5 +1,5 @@
 -- The loop that reads a list of elements.
-use Rattle.std.proofs.Common.{◌≡◌, ◌≢◌, ℕ, ◌<◌, ◌≤◌, ◌+◌, ◌*◌, ◌-◌, Bool, true, false, List, [], ◌∷◌, ◌++◌, length, Result, Ok, Err, refl, sym, ap, subst, ◌∙◌, append_assoc, arith, length-append}
+use Rattle.std.proofs.Common.{◌≡◌, ℕ, ◌≤◌, ◌+◌, ◌*◌, ◌-◌, false, List, [], ◌∷◌, ◌++◌, length, Result, Ok, Err, refl, sym, ap, subst, ◌∙◌, append_assoc, arith, length-append}
 use Rattle.std.specs.Prelude.{IsTrue}
 use Rattle.std.proofs.lemmas.List.{append-nil}
 use Rattle.wl_elem.specs.declared.why.Why.{Why}
@@ -9,12 +9,12 @@ use Rattle.wl_elem.specs.declared.fault.Fault.TheVariants as faults
 use Rattle.wl_elem.specs.declared.block.Stop.{Stop}
 use Rattle.wl_elem.specs.declared.block.Stop.TheVariants as stops
 use Rattle.wl_elem.specs.declared.kind.ListKind.TheVariants.{Elements}
-use Rattle.wl_elem.specs.Answers.{refusal_at, Answers, AnswersOnly}
+use Rattle.wl_elem.specs.Answers.{Answers, AnswersOnly}
 use Rattle.wl_elem.specs.Block.{IsTaken, IsStopped, IsStoppedAs, IsWithin}
-use Rattle.wl_elem.specs.Cutting.{IsCut, joined, fragments, pieces, piece, fragment_id, IsWritten}
+use Rattle.wl_elem.specs.Cutting.{IsCut, joined, fragments, pieces, IsWritten}
 use Rattle.wl_elem.specs.declared.kind.ListKind.{ListKind}
 use Rattle.wl_elem.specs.Element.{ElementValue, has_shape, information}
-use Rattle.wl_elem.specs.ElementList.{Spells, Elems, ElemsRefused, ReadAs}
+use Rattle.wl_elem.specs.ElementList.{Elems, ReadAs}
 use Rattle.wl_elem.specs.Row.{row_text, IsCutOff}
 use Rattle.wl_elem.proofs.Lists.{one_reading}
 

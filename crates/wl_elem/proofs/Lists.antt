@@ -1,20 +1,16 @@
 -- Element lists: they are read in one way, spelled in one way, and refused where they aren't read.
-use Rattle.std.proofs.Common.{◌≡◌, ◌≢◌, ℕ, zero, suc, ◌<◌, ◌≤◌, ◌+◌, ◌*◌, ◌-◌, Bool, true, false, cond, eqb, eq-eqb, List, [], ◌∷◌, ◌++◌, length, Option, None, Some, Result, Ok, Err, refl, sym, ap, subst, ◌∙◌, append_assoc, arith, length-append, inl, inr}
-use Rattle.std.specs.Prelude.{◌&&◌, ◌==◌, ◌⊎◌, IsTrue, not}
-use Rattle.std.proofs.lemmas.List.{append-nil}
+use Rattle.std.proofs.Common.{◌≡◌, ◌≢◌, ℕ, ◌<◌, ◌≤◌, Bool, true, false, eqb, eq-eqb, List, [], ◌∷◌, ◌++◌, length, Option, None, Some, Result, Ok, Err, refl, sym, ap, subst, ◌∙◌, arith, length-append}
+use Rattle.std.specs.Prelude.{◌&&◌, IsTrue, not}
 use Rattle.std.proofs.lemmas.Bool.{eqb-true, ne_eqb}
-use Rattle.wl_elem.specs.declared.why.Why.{Why}
 use Rattle.wl_elem.specs.declared.fault.Refusal.{Refusal}
-use Rattle.wl_elem.specs.declared.fault.Fault.{Fault}
-use Rattle.wl_elem.specs.declared.fault.Fault.TheVariants as faults
 use Rattle.wl_elem.specs.declared.kind.ListKind.{ListKind}
-use Rattle.wl_elem.specs.declared.kind.ListKind.TheVariants.{Elements, Subelements}
-use Rattle.wl_elem.specs.Answers.{refusal_at, Answers, AnswersOnly}
-use Rattle.wl_elem.specs.Cutting.{fragment_id, IsCut, joined, piece, fragments, pieces, IsWritten}
+use Rattle.wl_elem.specs.declared.kind.ListKind.TheVariants.{Elements}
+use Rattle.wl_elem.specs.Answers.{refusal_at}
+use Rattle.wl_elem.specs.Cutting.{IsCut, joined, pieces, IsWritten}
 use Rattle.wl_elem.specs.Element.{ElementValue, has_shape, information, information_of}
 use Rattle.wl_elem.specs.ElementList.{Spells, Elems, ElemsRefused, ReadAs}
-use Rattle.wl_elem.specs.Row.{Piece, IsPiece, IsRow, row_text, full_after, is_full, is_extended, fault_at, IsCutOff}
-use Rattle.wl_elem.specs.Block.{begins_with_fragment, IsTaken}
+use Rattle.wl_elem.specs.Row.{Piece, IsPiece, IsRow, row_text, full_after, is_extended, IsCutOff}
+use Rattle.wl_elem.specs.Block.{begins_with_fragment}
 use Rattle.wl_elem.proofs.Joining.{first_part, row_of, row_of_text, row_of_is_row, IsRow-append, row_text-append}
 use Rattle.wl_elem.proofs.Once.{one_cut, one_cut_off, no_cut_off, one_item}
 

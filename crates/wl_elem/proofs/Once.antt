@@ -1,17 +1,12 @@
 -- Octets are read in one way: a row of pieces and what stops it are determined by the octets.
-use Rattle.std.proofs.Common.{◌≡◌, ◌≢◌, ℕ, zero, suc, ◌<◌, ◌≤◌, ◌+◌, Bool, true, false, cond, eqb, List, [], ◌∷◌, ◌++◌, length, Option, None, Some, Result, Ok, Err, refl, sym, ap, subst, ◌∙◌, append_assoc, arith, length-append, inl, inr}
-use Rattle.std.specs.Prelude.{◌&&◌, ◌==◌, ◌⊎◌, IsTrue, not}
+use Rattle.std.proofs.Common.{◌≡◌, ℕ, ◌<◌, Bool, true, false, cond, eqb, List, [], ◌∷◌, ◌++◌, length, None, Some, refl, sym, ap, subst, ◌∙◌, append_assoc, arith, length-append, inl, inr}
+use Rattle.std.specs.Prelude.{◌&&◌, ◌==◌, ◌⊎◌, not}
 use Rattle.std.proofs.Common.{eq-eqb, le-ltb}
 use Rattle.std.proofs.lemmas.List.{append-nil}
 use Rattle.std.proofs.lemmas.Bool.{eqb-true, ne_eqb}
 use Rattle.wl_elem.specs.declared.why.Why.{Why}
-use Rattle.wl_elem.specs.declared.fault.Refusal.{Refusal}
-use Rattle.wl_elem.specs.declared.fault.Fault.{Fault}
-use Rattle.wl_elem.specs.declared.fault.Fault.TheVariants as faults
 use Rattle.wl_elem.specs.declared.kind.ListKind.{ListKind}
-use Rattle.wl_elem.specs.declared.kind.ListKind.TheVariants.{Elements, Subelements}
-use Rattle.wl_elem.specs.Answers.{refusal_at, Answers, AnswersOnly}
-use Rattle.wl_elem.specs.Cutting.{fragment_id, IsCut, joined, piece, fragments, pieces, IsWritten}
+use Rattle.wl_elem.specs.Cutting.{fragment_id, IsCut, joined, piece, fragments, pieces}
 use Rattle.wl_elem.specs.Row.{Piece, IsPiece, IsRow, row_text, full_after, is_full, is_extended, fault_at, IsCutOff}
 use Rattle.wl_elem.specs.Block.{begins_with_fragment}
 

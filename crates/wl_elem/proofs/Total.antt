@@ -1,6 +1,6 @@
 -- Each list of elements has a spelling, and all octets are read or refused.
-use Rattle.std.proofs.Common.{◌≡◌, ◌≢◌, ℕ, zero, suc, ◌<◌, ◌≤◌, ◌+◌, ◌*◌, ◌-◌, Bool, true, false, cond, eqb, ltb, eq-eqb, List, [], ◌∷◌, ◌++◌, length, take, drop, Option, None, Some, Result, Ok, Err, refl, sym, ap, subst, ◌∙◌, append_assoc, arith, length-append, length-drop, inl, inr}
-use Rattle.std.specs.Prelude.{◌&&◌, ◌==◌, ◌⊎◌, IsTrue, not}
+use Rattle.std.proofs.Common.{◌≡◌, ◌≢◌, ℕ, zero, suc, ◌<◌, ◌≤◌, ◌+◌, Bool, true, false, cond, eqb, ltb, eq-eqb, List, [], ◌∷◌, ◌++◌, length, take, drop, Option, None, Some, Result, Ok, Err, refl, sym, ap, subst, ◌∙◌, append_assoc, arith, length-append, length-drop, inl, inr}
+use Rattle.std.specs.Prelude.{◌&&◌, ◌==◌, IsTrue, not}
 use Rattle.std.specs.List.{AllByRecursion}
 use Rattle.std.proofs.lemmas.List.{append-nil, length-take, take-append-drop}
 use Rattle.std.proofs.lemmas.Bool.{eqb-true, ne_eqb, cases_lt, ltb-false}
@@ -8,13 +8,12 @@ use Rattle.std.proofs.lemmas.Bool.Decides.{eqb_tells}
 use Rattle.wl_elem.specs.declared.why.Why.{Why}
 use Rattle.wl_elem.specs.declared.why.Why.TheVariants.{Truncated, StrayFragment, EmptyFragment, NoExtension}
 use Rattle.wl_elem.specs.declared.fault.Refusal.{Refusal}
-use Rattle.wl_elem.specs.declared.kind.ListKind.{ListKind}
-use Rattle.wl_elem.specs.declared.kind.ListKind.TheVariants.{Elements, Subelements}
+use Rattle.wl_elem.specs.declared.kind.ListKind.TheVariants.{Elements}
 use Rattle.wl_elem.specs.Answers.{refusal_at}
-use Rattle.wl_elem.specs.Cutting.{fragment_id, IsCut, joined, piece, fragments, pieces, IsWritten}
-use Rattle.wl_elem.specs.Element.{ElementValue, has_shape, information, information_of}
-use Rattle.wl_elem.specs.ElementList.{Spells, Elems, ElemsRefused, ReadAs}
-use Rattle.wl_elem.specs.Row.{Piece, IsPiece, IsRow, row_text, full_after, is_full, is_extended, fault_at, IsCutOff, truncated}
+use Rattle.wl_elem.specs.Cutting.{IsCut, joined, piece, fragments, pieces, IsWritten}
+use Rattle.wl_elem.specs.Element.{ElementValue, has_shape, information}
+use Rattle.wl_elem.specs.ElementList.{Elems, ReadAs}
+use Rattle.wl_elem.specs.Row.{Piece, IsPiece, IsRow, row_text, full_after, is_full, is_extended, fault_at, IsCutOff}
 use Rattle.wl_elem.proofs.Once.{Stops}
 use Rattle.wl_elem.proofs.Lists.{some_parts}
 

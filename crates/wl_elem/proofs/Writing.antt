@@ -1,12 +1,12 @@
 -- Writing elements: how long they are, and the loop over the Fragments.
-use Rattle.std.proofs.Common.{◌≡◌, ◌≢◌, ℕ, zero, suc, ◌<◌, ◌≤◌, ◌+◌, ◌*◌, ◌-◌, ◌/◌, Bool, true, false, List, [], ◌∷◌, ◌++◌, length, take, drop, Option, None, Some, refl, sym, ap, subst, ◌∙◌, append_assoc, arith, length-append}
+use Rattle.std.proofs.Common.{◌≡◌, ℕ, ◌<◌, ◌≤◌, ◌+◌, ◌*◌, ◌-◌, ◌/◌, true, List, [], ◌∷◌, ◌++◌, length, Option, None, Some, refl, sym, ap, subst, ◌∙◌, append_assoc, arith, length-append}
 use Rattle.std.specs.Prelude.{IsTrue}
 use Rattle.std.proofs.lemmas.List.{append-nil}
 use Rattle.wl_elem.specs.declared.kind.ListKind.{ListKind}
 use Rattle.wl_elem.specs.declared.kind.ListKind.TheVariants.{Elements}
-use Rattle.wl_elem.specs.Cutting.{fragment_id, IsCut, joined, piece, fragments, pieces, IsWritten}
+use Rattle.wl_elem.specs.Cutting.{IsCut, joined, piece, fragments, pieces}
 use Rattle.wl_elem.specs.Element.{ElementValue, has_shape, information, information_of}
-use Rattle.wl_elem.specs.ElementList.{Spells, Elems}
+use Rattle.wl_elem.specs.ElementList.{Elems}
 use Rattle.wl_elem.specs.Encoding.{HasLength, HasElementLength, AddsElement, AddsFragments}
 use Rattle.wl_elem.proofs.Joining.{last_full, cut_more, joined_more, fragments_more, last_full_more}
 use Rattle.wl_elem.proofs.Decoding.{Elems-append}

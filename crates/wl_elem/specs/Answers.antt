@@ -1,6 +1,6 @@
 -- What a decoder answers. A reading of an input is a value, or the refusal of the input; want of
 -- memory says nothing of it.
-use Rattle.std.specs.Prelude.{◌≡◌, ℕ, Option, None, Result, Ok, Err}
+use Rattle.std.specs.Prelude.{◌≡◌, ℕ, None, Result, Ok, Err}
 use Rattle.wl_elem.specs.declared.why.Why.{Why}
 use Rattle.wl_elem.specs.declared.fault.Refusal.{Refusal}
 use Rattle.wl_elem.specs.declared.fault.Fault.{Fault}

@@ -1,9 +1,13 @@
+ghost use Rattle.std.specs.Prelude.{◌≡◌, length, IfOk};
+
 use super::*;
 use std::alloc::Global;
 use std::test::Fail;
 
 /// A list of one element of ID 221 with so many zero octets.
-fn one(alloc: Global, octets: usize) -> Result<Elements, Fail> {
+fn one(alloc: Global, octets: usize) -> Result<Elements, Fail>
+    ensures { IfOk result (λ list. length list ≡ 1) }
+{
     let body = Bytes::from_vec(vec![in alloc; 0u8; octets]?);
     if octets > 16_777_216 {
         return Err(Fail::from("a body is longer than an element's"));
@@ -27,7 +31,9 @@ fn long_bodies_are_cut_and_joined(rt: HostRuntime) -> Result<(), Fail> {
     ];
     for (octets, len, fragment) in cases {
         let list = one(alloc, octets)?;
-        assert_eq!(rt; encoded_len(&list), len, "at {octets}");
+        let written_len = encoded_len(&list);
+        assert_eq!(rt; written_len, len, "at {octets}");
+        assert!(rt; written_len <= 16_777_216);
         let written = encode_elements(alloc, &list)?;
         let text = written.as_slice();
         assert_eq!(rt; text.len() as u64, len, "at {octets}");

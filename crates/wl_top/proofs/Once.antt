@@ -1,17 +1,13 @@
 -- One text is shown for an input, or it has one first bad line, and not both.
-use Rattle.std.proofs.Common.{◌≡◌, ℕ, zero, suc, ◌+◌, List, [], ◌∷◌, ◌++◌, Option, None, Some, Result, Ok, Err, refl, sym, ap, subst, ◌∙◌, inl, inr, arith}
-use Rattle.std.specs.Prelude.{◌⊎◌, unwrap_or}
+use Rattle.std.proofs.Common.{◌≡◌, ℕ, suc, List, [], ◌∷◌, ◌++◌, Option, Result, Ok, Err, sym, ap, subst, ◌∙◌, inl, inr, arith}
+use Rattle.std.specs.Prelude.{unwrap_or}
 use Rattle.wl_elem.specs.declared.fault.Refusal.{Refusal}
-use Rattle.wl_elem.specs.declared.why.Why.TheVariants.{NotBuilt}
-use Rattle.wl_elem.specs.Answers.{refusal_at}
-use Rattle.wl_elem.specs.Element.{ElementValue, HasIdentity}
-use Rattle.wl_elem.specs.ElementList.{Elems, ElemsRefused, ReadAs}
+use Rattle.wl_elem.specs.Element.{ElementValue}
+use Rattle.wl_elem.specs.ElementList.{ReadAs}
 use Rattle.wl_ttlm.specs.declared.ttlm.Ttlm.{Ttlm}
 use Rattle.wl_ttlm.specs.Ttlm as ttlm
 use Rattle.wl_top.specs.declared.line.Kind.{Kind}
 use Rattle.wl_top.specs.declared.line.Kind.TheVariants.{Elements, Action, AssocAsk, AssocReply, Frame}
-use Rattle.wl_top.specs.Line.{IsHexLine}
-use Rattle.wl_top.specs.Text.{refused_text, element_text}
 use Rattle.wl_top.specs.TtlmText.{ttlm_text}
 use Rattle.wl_top.specs.Shown.{Answer, IsMapping, IsMultiLink, MappingAs, ItemAs, ItemsAs, ListAs, Shown, behind, at_element, answer_text}
 use Rattle.wl_top.specs.Decoded.{ShownFor, ShownLines, IsFirstBad}

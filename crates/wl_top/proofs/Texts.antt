@@ -1,12 +1,11 @@
 -- The loop over the lines of an input.
-use Rattle.std.proofs.Common.{◌≡◌, ℕ, zero, suc, ◌+◌, ◌<◌, ◌≤◌, List, [], ◌∷◌, ◌++◌, length, refl, sym, ap, subst, ◌∙◌, append_assoc, arith, inl, inr}
+use Rattle.std.proofs.Common.{◌≡◌, ℕ, suc, ◌+◌, ◌<◌, ◌≤◌, List, [], ◌∷◌, ◌++◌, length, refl, sym, ap, subst, ◌∙◌, append_assoc, arith, inl, inr}
 use Rattle.std.proofs.lemmas.List.{append-nil}
 use Rattle.wl_top.specs.declared.line.LineFault.{LineFault}
 use Rattle.wl_top.specs.declared.line.LineFault.TheVariants as lines
 use Rattle.wl_top.specs.declared.decode.TextFault.{TextFault}
-use Rattle.wl_top.specs.declared.decode.TextFault.TheVariants as faults
 use Rattle.wl_top.specs.Line.{lines_of, IsLineFault}
-use Rattle.wl_top.specs.Decoded.{ShownFor, ShownLines, IsFirstBad, IsTextFault, IsFaultAt, AddsLine}
+use Rattle.wl_top.specs.Decoded.{ShownLines, IsFirstBad, IsTextFault, IsFaultAt, AddsLine}
 
 -- whatever the lines left give, with the lines so far it is that of the whole input
 pub record Continues (input rest : List ℕ) (number : ℕ) (out : List ℕ) : Type 0 where

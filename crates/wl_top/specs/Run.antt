@@ -1,7 +1,7 @@
 -- A run of the program: how it ends, and why.
 use Rattle.std.specs.Prelude.{◌≡◌, ◌≢◌, ℕ, List, [], ◌∷◌, Option, codes}
 use Rattle.wl_io.specs.Faults.{Rose}
-use Rattle.wl_io.specs.Reading.{AreAll, IsTooLong, read_limit}
+use Rattle.wl_io.specs.Reading.{AreAll, IsTooLong}
 use Rattle.wl_io.specs.Sink.{Takes}
 use Rattle.wl_io.specs.Writing.{IsWriteFault}
 use Rattle.wl_top.specs.declared.run.Outcome.{Outcome}

@@ -1,5 +1,5 @@
 -- Texts of values: numbers in decimal, octets in hex, `-` for what isn't there.
-use Rattle.std.specs.Prelude.{ℕ, ◌==◌, if◌then◌else◌, Bool, true, false, List, [], ◌∷◌, ◌++◌, Option, Some, None, codes}
+use Rattle.std.specs.Prelude.{ℕ, List, [], ◌++◌, Option, Some, None, codes}
 use Rattle.std.specs.Fmt.{decimal}
 use Rattle.hex.specs.Hex.{encode_lower}
 use Rattle.wl_elem.specs.declared.fault.Refusal.{Refusal}

@@ -21,7 +21,12 @@ pub enum TextFault {
 }
 
 /// Adds what is shown for a line, and its line end. NotHex exactly where it is no hex line.
-fn push_line(alloc: Global, out: &mut String, line: &[u8]) -> Result<(), LineFault>
+fn push_line(
+    alloc: Global,
+    scratch: &mut String,
+    out: &mut String,
+    line: &[u8],
+) -> Result<(), LineFault>
     requires { length line.now ≤ body_limit }
     ensures shown { OnOk result (AddsLine line.now (string_bytes out.old) (string_bytes out.new)) }
     ensures refused { IfErr result (IsLineFault line.now) }
@@ -30,7 +35,7 @@ fn push_line(alloc: Global, out: &mut String, line: &[u8]) -> Result<(), LineFau
         Ok(hex) => hex,
         Err(fault) => return Err(fault),
     };
-    match push_shown(alloc, out, &hex) {
+    match push_shown(alloc, scratch, out, &hex) {
         Ok(()) => {}
         Err(Memory) => return Err(LineFault::Memory),
     }
@@ -57,13 +62,14 @@ pub fn shown_lines(alloc: Global, input: &[u8]) -> Result<String, TextFault>
     ensures shown { IfOk result (λ text. ShownLines (lines_of input.now) (string_bytes text)) }
     ensures fault { IfErr result (IsTextFault (lines_of input.now)) }
 {
+    let mut scratch = String::new(alloc);
     let mut out = String::new(alloc);
     let mut rest = input;
     let mut number = 0u64;
     'lines: while !rest.is_empty() {
         let (line, after) = first_line(rest);
         number += 1;
-        match push_line(alloc, &mut out, line) {
+        match push_line(alloc, &mut scratch, &mut out, line) {
             Ok(()) => {}
             Err(fault) => return Err(text_fault(number, fault)),
         }

@@ -72,33 +72,34 @@ fn push_item(alloc: Global, out: &mut String, e: &Element) -> Result<(), Fault>
     Ok(())
 }
 
-/// The elements of a list in order, each behind a space; or the fault of the first that has one.
-pub fn items_of(alloc: Global, list: &Elements) -> Result<String, Fault>
+/// Makes `items` the elements of a list in order, each behind a space; or answers the fault of the
+/// first that has one, and then `items` has no meaning.
+fn put_items(alloc: Global, items: &mut String, list: &Elements) -> Result<(), Fault>
     requires { length list.now < 2 ^ 32 }
-    ensures shown { IfOk result (λ text. ItemsAs 0 list.now (Ok (string_bytes text))) }
+    ensures shown { OnOk result (ItemsAs 0 list.now (Ok (string_bytes items.new))) }
     ensures refused { IfErr result (IsFaultOf (ItemsAs 0 list.now)) }
 {
-    let mut items = String::new(alloc);
+    items.clear();
     for (i, e) in list.as_slice().iter().enumerate() {
-        items.push(' ')?;
-        match push_item(alloc, &mut items, e) {
+        items.push_str(" ")?;
+        match push_item(alloc, items, e) {
             Ok(()) => {}
             Err(fault) => return Err(in_element(i as u32, fault)),
         }
     }
-    Ok(items)
+    Ok(())
 }
 
-/// The items of the list that the octets are; or the fault of the list, or of the first element that
-/// has one.
-pub fn list_items(alloc: Global, octets: &[u8]) -> Result<String, Fault>
+/// Makes `items` those of the list that the octets are; or answers the fault of the list, or of the
+/// first element that has one, and then `items` has no meaning.
+pub fn put_list(alloc: Global, items: &mut String, octets: &[u8]) -> Result<(), Fault>
     requires { length octets.now ≤ body_limit }
-    ensures shown { IfOk result (λ text. ListAs octets.now (Ok (string_bytes text))) }
+    ensures shown { OnOk result (ListAs octets.now (Ok (string_bytes items.new))) }
     ensures refused { IfErr result (IsFaultOf (ListAs octets.now)) }
 {
     let list = match decode_elements(alloc, octets) {
         Ok(list) => list,
         Err(fault) => return Err(fault),
     };
-    items_of(alloc, &list)
+    put_items(alloc, items, &list)
 }

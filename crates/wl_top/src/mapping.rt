@@ -2,29 +2,37 @@
 
 ghost use Rattle.std.specs.Prelude.{◌≡◌, ◌||◌, ◌++◌, OnOk, IfOk, is_some};
 ghost use Rattle.std.specs.String.{string_bytes};
-ghost use Rattle.wl_ttlm.specs.Ttlm.{bit};
-ghost use Rattle.wl_top.specs.TtlmText.{map_items, sum_text, flags_text, times_text, maps_text, ttlm_text, map_text};
+ghost use Rattle.wl_top.specs.TtlmText.{map_items, sum_text, flag_text, head_text, flags_text, times_text, maps_text, ttlm_text, map_text};
 
-use crate::show::{push_hex, push_optional};
+use crate::show::{push_hex, push_number, push_optional};
 use std::alloc::Global;
 use wl_elem::Memory;
 use wl_ttlm::Ttlm;
 
 /// A flag as 0 or 1.
-fn flag(set: bool) -> u8
-    ensures { result ≡ bit set }
+fn flag(set: bool) -> &'static str
+    ensures { result.now ≡ flag_text set }
 {
-    match set {
-        true => 1,
-        false => 0,
-    }
+    if set { "1" } else { "0" }
+}
+
+fn push_head(out: &mut String, t: &Ttlm) -> Result<(), Memory>
+    ensures { OnOk result (string_bytes out.new ≡ string_bytes out.old ++ head_text t.now) }
+{
+    out.push_str("ttlm(dir=")?;
+    push_number(out, u64::from(t.direction))?;
+    out.push_str(",default=")?;
+    out.push_str(flag(t.default))?;
+    Ok(())
 }
 
 fn push_flags(out: &mut String, t: &Ttlm) -> Result<(), Memory>
     ensures { OnOk result (string_bytes out.new ≡ string_bytes out.old ++ flags_text t.now) }
 {
-    write!(out, "ttlm(dir={},default={}", t.direction, flag(t.default))?;
-    write!(out, ",spare={},narrow={}", t.spare, flag(t.narrow))?;
+    out.push_str(",spare=")?;
+    push_number(out, u64::from(t.spare))?;
+    out.push_str(",narrow=")?;
+    out.push_str(flag(t.narrow))?;
     Ok(())
 }
 
@@ -46,9 +54,11 @@ fn push_map(out: &mut String, some: bool, tid: usize, map: Option<u16>) -> Resul
     match map {
         Some(n) => {
             if some {
-                out.push('+')?;
+                out.push_str("+")?;
             }
-            write!(out, "{tid}:{n}")?;
+            push_number(out, tid as u64)?;
+            out.push_str(":")?;
+            push_number(out, u64::from(n))?;
             Ok(true)
         }
         None => Ok(some),
@@ -63,7 +73,7 @@ fn push_maps(out: &mut String, maps: &[Option<u16>]) -> Result<(), Memory>
         some = push_map(out, some, tid, *map)?;
     }
     if !some {
-        out.push('-')?;
+        out.push_str("-")?;
     }
     Ok(())
 }
@@ -75,7 +85,7 @@ fn push_tail(alloc: Global, out: &mut String, t: &Ttlm) -> Result<(), Memory>
     push_maps(out, &t.maps)?;
     out.push_str(",tail=")?;
     push_hex(alloc, out, t.tail.as_slice())?;
-    out.push(')')?;
+    out.push_str(")")?;
     Ok(())
 }
 
@@ -83,6 +93,7 @@ fn push_tail(alloc: Global, out: &mut String, t: &Ttlm) -> Result<(), Memory>
 pub fn push_ttlm(alloc: Global, out: &mut String, t: &Ttlm) -> Result<(), Memory>
     ensures { OnOk result (string_bytes out.new ≡ string_bytes out.old ++ ttlm_text t.now) }
 {
+    push_head(out, t)?;
     push_flags(out, t)?;
     push_times(out, t)?;
     push_tail(alloc, out, t)

@@ -1,12 +1,23 @@
 //! Shown texts: refusals, elements and their parts.
 
 ghost use Rattle.std.specs.Prelude.{◌≡◌, ◌++◌, OnOk};
+ghost use Rattle.std.specs.Fmt.{decimal};
 ghost use Rattle.std.specs.String.{string_bytes};
 ghost use Rattle.hex.specs.Hex.{encode_lower};
 ghost use Rattle.wl_top.specs.Text.{optional, index_text, refused_text, name_text, element_text};
 
+use itoa::Buffer;
 use std::alloc::Global;
 use wl_elem::{Element, Memory, Refusal};
+
+/// Adds a number in decimal.
+pub fn push_number(out: &mut String, n: u64) -> Result<(), Memory>
+    ensures { OnOk result (string_bytes out.new ≡ string_bytes out.old ++ decimal n) }
+{
+    let mut buffer = Buffer::new();
+    out.push_str(buffer.format(n))?;
+    Ok(())
+}
 
 /// Adds an index of a refusal under its name, where it is there.
 fn push_index(out: &mut String, name: &str, index: Option<u32>) -> Result<(), Memory>
@@ -39,11 +50,11 @@ pub fn push_optional(out: &mut String, value: Option<u32>) -> Result<(), Memory>
 {
     match value {
         Some(n) => {
-            write!(out, "{n}")?;
+            push_number(out, u64::from(n))?;
             Ok(())
         }
         None => {
-            out.push('-')?;
+            out.push_str("-")?;
             Ok(())
         }
     }
@@ -53,6 +64,9 @@ pub fn push_optional(out: &mut String, value: Option<u32>) -> Result<(), Memory>
 pub fn push_hex(alloc: Global, out: &mut String, octets: &[u8]) -> Result<(), Memory>
     ensures { OnOk result (string_bytes out.new ≡ string_bytes out.old ++ encode_lower octets.now) }
 {
+    if octets.is_empty() {
+        return Ok(());
+    }
     let digits = hex::encode(alloc, octets)?;
     out.push_str(digits.as_str())?;
     Ok(())
@@ -64,12 +78,14 @@ fn push_name(out: &mut String, id: u8, ext: Option<u8>) -> Result<(), Memory>
 {
     match ext {
         Some(ext) => {
-            write!(out, "e{id}.{ext}")?;
-            Ok(())
+            out.push_str("e")?;
+            push_number(out, u64::from(id))?;
+            out.push_str(".")?;
+            push_number(out, u64::from(ext))
         }
         None => {
-            write!(out, "e{id}")?;
-            Ok(())
+            out.push_str("e")?;
+            push_number(out, u64::from(id))
         }
     }
 }
@@ -79,6 +95,6 @@ pub fn push_element(alloc: Global, out: &mut String, e: &Element) -> Result<(), 
     ensures { OnOk result (string_bytes out.new ≡ string_bytes out.old ++ element_text e.now) }
 {
     push_name(out, e.id(), e.ext())?;
-    out.push(':')?;
+    out.push_str(":")?;
     push_hex(alloc, out, e.body())
 }

@@ -6,21 +6,27 @@ ghost use Rattle.wl_elem.specs.Element.{body_limit};
 ghost use Rattle.wl_top.specs.Shown.{AddsShown};
 ghost use Rattle.wl_top.specs.declared.line.Kind.TheVariants.{Elements};
 
-use crate::item::{list_items, not_built};
+use crate::item::{not_built, put_list};
 use crate::line::{HexLine, Kind};
 use crate::show::push_refusal;
 use std::alloc::Global;
 use wl_elem::{Fault, Memory};
 
-/// Adds what is shown for a list of elements: `ok` and its items, or the refusal.
-fn push_list(alloc: Global, out: &mut String, octets: &[u8]) -> Result<(), Memory>
+/// Adds what is shown for a list of elements: `ok` and its items, or the refusal. The items are made
+/// in `scratch` first, since the last element may be refused.
+fn push_list(
+    alloc: Global,
+    scratch: &mut String,
+    out: &mut String,
+    octets: &[u8],
+) -> Result<(), Memory>
     requires { length octets.now ≤ body_limit }
     ensures { OnOk result (AddsShown Elements octets.now (string_bytes out.old) (string_bytes out.new)) }
 {
-    match list_items(alloc, octets) {
-        Ok(items) => {
+    match put_list(alloc, scratch, octets) {
+        Ok(()) => {
             out.push_str("ok")?;
-            out.push_str(items.as_str())?;
+            out.push_str(scratch.as_str())?;
             Ok(())
         }
         Err(Fault::Refused(refusal)) => push_refusal(out, &refusal),
@@ -29,13 +35,18 @@ fn push_list(alloc: Global, out: &mut String, octets: &[u8]) -> Result<(), Memor
 }
 
 /// Adds the line that is shown for a hex line, without its end. Kinds other than elements are shown
-/// as NotBuilt.
-pub fn push_shown(alloc: Global, out: &mut String, hex: &HexLine) -> Result<(), Memory>
+/// as NotBuilt. `scratch` is any text, whose room serves from one line to the next.
+pub fn push_shown(
+    alloc: Global,
+    scratch: &mut String,
+    out: &mut String,
+    hex: &HexLine,
+) -> Result<(), Memory>
     requires { length hex.now.octets.items ≤ body_limit }
     ensures { OnOk result (AddsShown hex.now.kind hex.now.octets.items (string_bytes out.old) (string_bytes out.new)) }
 {
     match hex.kind {
-        Kind::Elements => push_list(alloc, out, hex.octets.as_slice()),
+        Kind::Elements => push_list(alloc, scratch, out, hex.octets.as_slice()),
         Kind::Action | Kind::AssocAsk | Kind::AssocReply | Kind::Frame => {
             push_refusal(out, &not_built())
         }

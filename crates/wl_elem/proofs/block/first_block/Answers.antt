@@ -1,4 +1,4 @@
-use Rattle.std.proofs.Common.{◌≡◌, Bool, true, false, nat_eq, List, ℕ, length, sym, ◌∙◌, ap, subst}
+use Rattle.std.proofs.Common.{◌≡◌, Bool, true, nat_eq, List, ℕ, length, sym, ap, subst}
 use Rattle.std.specs.Prelude.{◌&&◌}
 use Rattle.wl_elem.specs.Block.{begins_with_fragment}
 use Rattle.wl_elem.proofs.Joining.{Joins, starts, goes_on, carries, at_once, is_taken, is_over}

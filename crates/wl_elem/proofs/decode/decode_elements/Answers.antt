@@ -1,4 +1,4 @@
-use Rattle.std.proofs.Common.{eqb-true, nat_eq, true, ◌≡◌, ◌++◌, [], ◌∷◌, List, ℕ, Ok, Err, length, arith, length-append, ap, sym, subst}
+use Rattle.std.proofs.Common.{eqb-true, nat_eq, true, ◌≡◌, List, Ok, Err, length, arith, length-append, ap, sym, subst}
 use Rattle.std.proofs.lemmas.List.{nil_from_length}
 use Rattle.wl_elem.specs.declared.kind.ListKind.TheVariants.{Elements}
 use Rattle.wl_elem.specs.Element.{ElementValue}

@@ -1,4 +1,4 @@
-use Rattle.std.proofs.Common.{◌≡◌, ◌<◌, ◌≤◌, ◌+◌, ◌*◌, ◌/◌, ℕ, subst, sym, arith, length}
+use Rattle.std.proofs.Common.{◌≡◌, ◌+◌, ◌*◌, ◌/◌, ℕ, subst, sym, arith, length}
 use Rattle.wl_elem.specs.Element.{information}
 use Rattle.wl_elem.specs.Encoding.{HasElementLength}
 use Rattle.wl_elem.proofs.Writing.{short_length, long_length}

@@ -1,4 +1,4 @@
-use Rattle.std.proofs.Common.{◌≤◌, ◌*◌, ◌^◌, take}
+use Rattle.std.proofs.Common.{◌≤◌, ◌*◌, take}
 use Rattle.wl_elem.specs.Encoding.{HasLength}
 use Rattle.wl_elem.proofs.encode.encoded_len.Given as goal
 

@@ -1,8 +1,8 @@
-use Rattle.std.proofs.Common.{◌≡◌, ◌<◌, ◌≤◌, ◌+◌, ◌++◌, ℕ, List, length, take, drop, subst, sym, ap, ◌∙◌, arith, nat_eq, false}
+use Rattle.std.proofs.Common.{◌≡◌, ◌<◌, ◌≤◌, ◌++◌, ℕ, length, sym, ap, ◌∙◌, arith, nat_eq, false}
 use Rattle.std.proofs.lemmas.List.{take-append-drop}
 use Rattle.std.proofs.lemmas.Bool.{eqb-false}
 use Rattle.wl_elem.specs.Cutting.{piece}
-use Rattle.wl_elem.proofs.Writing.{Writes, writes_more}
+use Rattle.wl_elem.proofs.Writing.{writes_more}
 use Rattle.wl_elem.proofs.encode.write_fragments.Goals as goal
 
 pub fragments-preserved : goal.fragments-preserved

@@ -1,9 +1,9 @@
-use Rattle.std.proofs.Common.{◌≡◌, ◌<◌, ◌≤◌, ◌+◌, ℕ, List, Some, Option, length, get_or, sym, ap, subst, ◌∙◌, arith, inl, inr, true, false}
-use Rattle.std.specs.Prelude.{slice_get, IsTrue}
+use Rattle.std.proofs.Common.{◌≡◌, ◌+◌, ℕ, List, Some, Option, length, get_or, sym, ap, subst, ◌∙◌, arith, inl, inr}
+use Rattle.std.specs.Prelude.{slice_get}
 use Rattle.std.proofs.lemmas.Bool.{cases_lt}
 use Rattle.std.proofs.lemmas.Option.{get_or_from_slice_get}
 use Rattle.wl_elem.specs.Element.{ElementValue, HasIdentity}
-use Rattle.wl_elem.specs.Finding.{IsAt, NoneBetween}
+use Rattle.wl_elem.specs.Finding.{NoneBetween}
 use Rattle.wl_elem.proofs.finding.find.Goals as goal
 
 -- what stands at an index

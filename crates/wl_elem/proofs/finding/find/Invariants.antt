@@ -1,4 +1,3 @@
-use Rattle.std.proofs.Common.{◌≤◌, length}
 use Rattle.wl_elem.specs.Finding.{NoneBetween}
 use Rattle.wl_elem.proofs.finding.find.Given as goal
 

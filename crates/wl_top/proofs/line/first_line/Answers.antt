@@ -1,4 +1,4 @@
-use Rattle.std.proofs.Common.{refl, ◌≡◌, List, ℕ, [], ◌∷◌, sym, ap, ◌∙◌}
+use Rattle.std.proofs.Common.{refl, List, ℕ, [], ◌∷◌, sym, ap, ◌∙◌}
 use Rattle.wl_top.specs.Line.{lines_of}
 use Rattle.wl_top.proofs.Lines.{lines_first, lines_last}
 use Rattle.wl_top.proofs.line.first_line.Goals as goal

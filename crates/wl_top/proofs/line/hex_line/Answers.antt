@@ -1,4 +1,4 @@
-use Rattle.std.proofs.Common.{◌≡◌, refl, arith}
+use Rattle.std.proofs.Common.{refl, arith}
 use Rattle.wl_top.proofs.Lines.{fault_of_line, few_octets}
 use Rattle.wl_top.proofs.line.hex_line.Goals as goal
 

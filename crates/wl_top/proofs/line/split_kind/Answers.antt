@@ -1,4 +1,4 @@
-use Rattle.wl_top.proofs.Lines.{only_by_word, none_by_word, only_bare}
+use Rattle.wl_top.proofs.Lines.{only_by_word, none_by_word}
 use Rattle.wl_top.proofs.line.split_kind.Goals as goal
 
 pub returns-in-Some-kind_of-clause-only : goal.returns-in-Some-kind_of-clause-only

@@ -1,4 +1,4 @@
-use Rattle.std.proofs.Common.{◌≡◌, ◌++◌, drop, length}
+use Rattle.std.proofs.Common.{◌≡◌, ◌++◌, drop}
 use Rattle.std.specs.String.{string_bytes}
 use Rattle.wl_top.specs.TtlmText.{map_items, sum_text}
 use Rattle.wl_top.proofs.Mappings.{rest_text}

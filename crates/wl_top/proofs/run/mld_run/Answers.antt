@@ -1,8 +1,6 @@
-use Rattle.std.proofs.Common.{◌≡◌, refl, sym, ap, subst, ◌∙◌, true, false, map}
-use Rattle.std.specs.Prelude.{IsTrue}
+use Rattle.std.proofs.Common.{refl, map}
 use Rattle.std.specs.String.{string_bytes}
 use Rattle.wl_top.specs.declared.run.Ending.TheVariants.{Usage}
-use Rattle.wl_top.specs.Run.{IsCommand}
 use Rattle.wl_top.proofs.run.mld_run.Goals as goal
 
 pub returns-then-is_decode : goal.returns-then-is_decode

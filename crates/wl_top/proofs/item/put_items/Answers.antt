@@ -1,9 +1,9 @@
-use Rattle.std.proofs.Common.{◌≡◌, ℕ, List, [], ◌∷◌, ◌++◌, ◌+◌, Ok, sym, ap, subst, ◌∙◌, arith}
+use Rattle.std.proofs.Common.{◌≡◌, ℕ, List, [], ◌∷◌, ◌++◌, ◌+◌, Ok, sym, ap, subst, ◌∙◌}
 use Rattle.std.specs.String.{string_bytes}
 use Rattle.wl_elem.specs.Element.{ElementValue}
 use Rattle.wl_top.specs.Shown.{ItemsAs, IsFaultOf}
 use Rattle.wl_top.proofs.Items.{Continues, one_more, refuses, ends}
-use Rattle.wl_top.proofs.item.items_of.Goals as goal
+use Rattle.wl_top.proofs.item.put_items.Goals as goal
 
 pub returns-in-Err-clause-refused : goal.returns-in-Err-clause-refused
 returns-in-Err-clause-refused c =
@@ -17,7 +17,7 @@ loop-i-preserved c =
     let items = string_bytes c.loop-i.items in
     let shown = c.in-Ok.ensures.shown in
     let more = one_more list c.loop-i.i c.e-item.result items shown.0 c.loop-i-test.true c.e-item.is c.loop-i.invariant shown.1 in
-    let spaced : string_bytes c.push.new.self ≡ items ++ 32 ∷ [] = c.in_ok-push.ensures.bytes ∙ ap (λ (x : List ℕ). items ++ x) (c.in_ok-push.ensures.ascii (omega arith)) in
+    let spaced : string_bytes c.push_str.new.self ≡ items ++ 32 ∷ [] = c.in_ok-push_str.ensures.bytes in
     let text : (items ++ 32 ∷ []) ++ shown.0 ≡ string_bytes c.push_item.new.out = ap (λ (x : List ℕ). x ++ shown.0) (sym spaced) ∙ sym shown.2 in
     subst (λ (x : List ℕ). Continues list (c.loop-i.i + 1) x) text more
 

@@ -1,0 +1,115 @@
+#!/usr/bin/env python3
+"""Measures the built program beside a yardstick, and prints a table.
+
+Each input has 16 MiB of hex lines. The yardstick turns the same digits into octets: `xxd -r -p`,
+or a loop over `bytes.fromhex` where xxd is missing. Times are the least of some runs, in seconds of
+wall time; the ratio is the program's time over the yardstick's. Memory is the peak of the program.
+
+Usage: bench/run.py [--runs N]
+"""
+
+import argparse
+import os
+import shutil
+import subprocess
+import sys
+import tempfile
+import time
+
+ROOT = os.path.dirname(os.path.dirname(os.path.abspath(__file__)))
+SIZE = 16 * 1024 * 1024
+GOAL_RATIO = 4.0
+GOAL_MEMORY_MB = 1000
+
+PYTHON_YARDSTICK = """
+import sys
+out = sys.stdout.buffer
+for line in sys.stdin:
+    out.write(bytes.fromhex(line))
+"""
+
+
+def element(identity, body, ext=None):
+    extension = b"" if ext is None else bytes([ext])
+    return bytes([identity, len(extension) + len(body)]) + extension + body
+
+
+def mixed_list():
+    """Seven elements in 62 octets: raw ones, two mapping elements and a Non-Inheritance element."""
+    return b"".join(
+        [
+            element(0, b"abcdef"),
+            element(1, bytes(range(8))),
+            element(221, bytes(range(14))),
+            element(255, bytes.fromhex("21090102"), 109),
+            element(255, bytes.fromhex("1a0134120100000300"), 109),
+            element(45, b"\x01\x02"),
+            element(255, b"\x00\x01", 56),
+        ]
+    )
+
+
+def inputs():
+    small = b"ff026d06\n"
+    mixed = mixed_list().hex().encode() + b"\n"
+    yield "the default mapping, 4 octets a line", small
+    yield f"mixed elements, {len(mixed_list())} octets a line", mixed
+
+
+def measure(command, path, runs):
+    """The least wall time in seconds, and the peak memory in MB."""
+    best, peak = None, 0
+    for _ in range(runs):
+        with open(path, "rb") as source, open(os.devnull, "wb") as sink:
+            start = time.monotonic()
+            child = subprocess.Popen(command, stdin=source, stdout=sink)
+            _, status, usage = os.wait4(child.pid, 0)
+            taken = time.monotonic() - start
+            child.returncode = os.waitstatus_to_exitcode(status)
+        if child.returncode != 0:
+            sys.exit(f"{command[0]} ended with status {child.returncode}")
+        best = taken if best is None else min(best, taken)
+        peak = max(peak, usage.ru_maxrss / 1024)
+    return best, peak
+
+
+def main():
+    parser = argparse.ArgumentParser(description=__doc__.splitlines()[0])
+    parser.add_argument("--runs", type=int, default=5)
+    runs = parser.parse_args().runs
+
+    # The launcher builds the program where that is needed; the program itself is measured.
+    subprocess.run([os.path.join(ROOT, "mld"), "decode"], stdin=subprocess.DEVNULL, check=True)
+    program = os.path.join(ROOT, "crates", "mld", "out", "mld")
+    if shutil.which("xxd"):
+        yardstick, name = ["xxd", "-r", "-p"], "xxd -r -p"
+    else:
+        yardstick, name = [sys.executable, "-c", PYTHON_YARDSTICK], "bytes.fromhex"
+
+    print(f"| 16 MiB of lines | mld decode | {name} | ratio | a line | memory |")
+    print("|---|---|---|---|---|---|")
+    missed = []
+    with tempfile.TemporaryDirectory() as folder:
+        for label, line in inputs():
+            lines = SIZE // len(line)
+            path = os.path.join(folder, "input.hex")
+            with open(path, "wb") as file:
+                file.write(line * lines)
+            ours, memory = measure([program, "decode"], path, runs)
+            theirs, _ = measure(yardstick, path, runs)
+            ratio = ours / theirs
+            per_line = ours / lines * 1e6
+            print(
+                f"| {label} | {ours:.2f} s | {theirs:.2f} s | {ratio:.1f} "
+                f"| {per_line:.2f} us | {memory:.0f} MB |"
+            )
+            if ratio > GOAL_RATIO:
+                missed.append(f"{label}: {ratio:.1f} times the yardstick, goal {GOAL_RATIO:.0f}")
+            if memory > GOAL_MEMORY_MB:
+                missed.append(f"{label}: {memory:.0f} MB, goal {GOAL_MEMORY_MB}")
+    for line in missed:
+        print(f"missed: {line}")
+
+
+if __name__ == "__main__":
+    main()

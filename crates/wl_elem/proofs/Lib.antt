@@ -4,3 +4,4 @@ pub mod Lists
 pub mod Decoding
 pub mod Total
 pub mod Writing
+pub mod LinkSets

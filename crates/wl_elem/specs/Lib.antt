@@ -8,3 +8,4 @@ pub mod Block
 pub mod Encoding
 pub mod Finding
 pub mod Octets
+pub mod Links

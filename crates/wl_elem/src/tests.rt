@@ -106,3 +106,26 @@ fn an_element_has_an_extension_exactly_under_255(rt: HostRuntime) {
         assert_eq!(rt; e.is_some(), made, "at {id}");
     }
 }
+
+#[test]
+fn links_and_tids_are_in_range(rt: HostRuntime) -> Result<(), Fail> {
+    assert_eq!(rt; LinkId::new(14).is_some(), true);
+    assert_eq!(rt; LinkId::new(15).is_some(), false);
+    assert_eq!(rt; Tid::new(7).is_some(), true);
+    assert_eq!(rt; Tid::new(8).is_some(), false);
+    assert_eq!(rt; LinkSet::from_bits(0x8000).is_some(), false);
+    let first = LinkId::new(0).ok_or("a link")?;
+    let last = LinkId::new(14).ok_or("a link")?;
+    let set = LinkSet::from_bits(2).ok_or("a set")?.with(last).with(first);
+    assert_eq!(rt; set.bits(), 0x4003);
+    assert_eq!(rt; set.count(), 3);
+    assert_eq!(rt; set.has(last), true);
+    assert_eq!(rt; set.without(last).bits(), 3);
+    assert_eq!(rt; set.without(last).within(set), true);
+    assert_eq!(rt; set.within(set.without(first)), false);
+    assert_eq!(rt;
+        MacAddr::new([2, 0, 0, 0, 0, 1]).octets(),
+        [2, 0, 0, 0, 0, 1]
+    );
+    Ok(())
+}

@@ -47,53 +47,54 @@ fn decode(alloc: Global, input: &[u8]) -> Result<Ran, Fail> {
     run_failing(alloc, &["decode"], input, none(alloc), none(alloc))
 }
 
+const LINES: [(&str, &str); 20] = [
+    (
+        "ff026d06",
+        "ok ttlm(dir=2,default=1,spare=0,narrow=0,switch=-,duration=-,map=-,tail=)",
+    ),
+    (
+        "ff056d21090102",
+        "ok ttlm(dir=1,default=0,spare=0,narrow=1,switch=-,duration=-,map=0:1+3:2,tail=)",
+    ),
+    (
+        "ff0a6d1a0134120100000300",
+        "ok ttlm(dir=2,default=0,spare=0,narrow=0,switch=4660,duration=1,map=0:3,tail=)",
+    ),
+    ("ff036d0308", "refused element=0 place=0 ReservedDirection"),
+    ("ff056d210901", "refused place=0 Truncated"),
+    ("\r", "ok"),
+    // Sparse presence bits: TIDs 0 and 7, and the same two octets short.
+    (
+        "ff076d008103000100",
+        "ok ttlm(dir=0,default=0,spare=0,narrow=0,switch=-,duration=-,map=0:3+7:1,tail=)",
+    ),
+    ("ff056d00810300", "refused element=0 place=4 Truncated"),
+    // Other elements are shown as octets, an unknown rest of a mapping element as its tail.
+    ("0003616263", "ok e0:616263"),
+    ("0000dd03AABBCC", "ok e0: e221:aabbcc"),
+    (
+        "elements ff0238ddff056d4602aabb",
+        "ok e255.56:dd ttlm(dir=2,default=1,spare=1,narrow=0,switch=-,duration=-,map=-,tail=02aabb)",
+    ),
+    // The first refusal in the list's order.
+    (
+        "0000ff026d03ff016b",
+        "refused element=1 place=0 ReservedDirection",
+    ),
+    ("0000ff016bff026d03", "refused element=1 place=0 NotBuilt"),
+    ("f20100", "refused place=0 StrayFragment"),
+    ("0001aaf20100", "refused place=3 StrayFragment"),
+    ("ff00", "refused place=0 NoExtension"),
+    // Kinds that aren't shown yet.
+    ("action 250001", "refused place=0 NotBuilt"),
+    ("assoc-ask ", "refused place=0 NotBuilt"),
+    ("assoc-reply 00", "refused place=0 NotBuilt"),
+    ("frame 88", "refused place=0 NotBuilt"),
+];
+
 #[test]
 fn lines_are_shown(rt: HostRuntime) -> Result<(), Fail> {
-    let lines = [
-        (
-            "ff026d06",
-            "ok ttlm(dir=2,default=1,spare=0,narrow=0,switch=-,duration=-,map=-,tail=)",
-        ),
-        (
-            "ff056d21090102",
-            "ok ttlm(dir=1,default=0,spare=0,narrow=1,switch=-,duration=-,map=0:1+3:2,tail=)",
-        ),
-        (
-            "ff0a6d1a0134120100000300",
-            "ok ttlm(dir=2,default=0,spare=0,narrow=0,switch=4660,duration=1,map=0:3,tail=)",
-        ),
-        ("ff036d0308", "refused element=0 place=0 ReservedDirection"),
-        ("ff056d210901", "refused place=0 Truncated"),
-        ("\r", "ok"),
-        // Sparse presence bits: TIDs 0 and 7, and the same two octets short.
-        (
-            "ff076d008103000100",
-            "ok ttlm(dir=0,default=0,spare=0,narrow=0,switch=-,duration=-,map=0:3+7:1,tail=)",
-        ),
-        ("ff056d00810300", "refused element=0 place=4 Truncated"),
-        // Other elements are shown as octets, an unknown rest of a mapping element as its tail.
-        ("0003616263", "ok e0:616263"),
-        ("0000dd03AABBCC", "ok e0: e221:aabbcc"),
-        (
-            "elements ff0238ddff056d4602aabb",
-            "ok e255.56:dd ttlm(dir=2,default=1,spare=1,narrow=0,switch=-,duration=-,map=-,tail=02aabb)",
-        ),
-        // The first refusal in the list's order.
-        (
-            "0000ff026d03ff016b",
-            "refused element=1 place=0 ReservedDirection",
-        ),
-        ("0000ff016bff026d03", "refused element=1 place=0 NotBuilt"),
-        ("f20100", "refused place=0 StrayFragment"),
-        ("0001aaf20100", "refused place=3 StrayFragment"),
-        ("ff00", "refused place=0 NoExtension"),
-        // Kinds that aren't shown yet.
-        ("action 250001", "refused place=0 NotBuilt"),
-        ("assoc-ask ", "refused place=0 NotBuilt"),
-        ("assoc-reply 00", "refused place=0 NotBuilt"),
-        ("frame 88", "refused place=0 NotBuilt"),
-    ];
-    for (line, shown) in lines {
+    for (line, shown) in LINES {
         let ran = decode(rt.alloc(), line.as_bytes())?;
         assert_eq!(rt; ran.outcome.status, 0, "at {line}");
         assert_eq!(rt; ran.outcome.place, 0, "at {line}");
@@ -103,21 +104,22 @@ fn lines_are_shown(rt: HostRuntime) -> Result<(), Fail> {
     Ok(())
 }
 
+const CUT: [(&str, u32); 9] = [
+    ("ff016d", 0),
+    ("ff026d1a", 1),
+    ("ff036d1a01", 2),
+    ("ff046d1a0134", 2),
+    ("ff056d1a013412", 4),
+    ("ff066d1a01341201", 4),
+    ("ff076d1a0134120100", 4),
+    ("ff086d1a013412010000", 7),
+    ("ff096d1a01341201000003", 7),
+];
+
 #[test]
 fn cut_elements_are_refused_at_their_field(rt: HostRuntime) -> Result<(), Fail> {
     // One element with every field, its body cut after 0 to 8 octets.
-    let bodies = [
-        ("ff016d", 0),
-        ("ff026d1a", 1),
-        ("ff036d1a01", 2),
-        ("ff046d1a0134", 2),
-        ("ff056d1a013412", 4),
-        ("ff066d1a01341201", 4),
-        ("ff076d1a0134120100", 4),
-        ("ff086d1a013412010000", 7),
-        ("ff096d1a01341201000003", 7),
-    ];
-    for (line, place) in bodies {
+    for (line, place) in CUT {
         let ran = decode(rt.alloc(), line.as_bytes())?;
         let want = format!(in rt.alloc(); "refused element=0 place={place} Truncated\n")?;
         assert_eq!(rt; ran.written.as_str(), want.as_str(), "at {line}");

@@ -1,21 +1,31 @@
 -- Lines and hex lines.
-use Rattle.std.proofs.Common.{◌≡◌, ℕ, ◌+◌, ◌*◌, ◌<◌, Bool, true, false, cond, eq-eqb, List, [], ◌∷◌, ◌++◌, length, map, Option, None, Some, Result, Ok, Err, refl, sym, ap, subst, ◌∙◌, arith, inl, inr}
-use Rattle.std.specs.Prelude.{◌==◌, ◌⊎◌}
+use Rattle.std.proofs.Common.{◌≡◌, ℕ, ◌+◌, ◌*◌, ◌/◌, ◌%◌, ◌<◌, Bool, true, false, cond, eq-eqb, List, [], ◌∷◌, ◌++◌, length, map, Option, None, Some, Result, Ok, Err, refl, sym, ap, subst, ◌∙◌, arith, inl, inr}
+use Rattle.std.specs.Prelude.{◌==◌, ◌⊎◌, MatchResult}
 use Rattle.std.specs.List.{slice_split, onto_first, AllByRecursion, position_from, position}
 use Rattle.std.specs.Str.Lines.{strip_carriage_return}
 use Rattle.std.proofs.lemmas.Bool.{eqb-true}
+use Rattle.std.proofs.lemmas.Bool.Decides.{eqb_tells}
 use Rattle.std.proofs.lemmas.List.Elements.{All-from_recursion, recursion_from_All}
 use Rattle.std.proofs.lemmas.List.Splits.{slice_split_at, slice_split_none}
 use Rattle.std.proofs.lemmas.Iterator.Adapters.{position_from-zero}
-use Rattle.hex.specs.Hex.{decode_of, is_hex_digit}
+use Rattle.hex.specs.Hex.{decode_of, decode_sized, is_hex_digit}
 use Rattle.hex.specs.declared.error.FromHexError.{FromHexError}
-use Rattle.hex.specs.declared.error.FromHexError.TheVariants.{OutOfMemory}
-use Rattle.wl_top.specs.declared.line.LineFault.{LineFault}
-use Rattle.wl_top.specs.declared.line.LineFault.TheVariants.{NotHex, Memory}
-use Rattle.hex.proofs.HexLemmas.{decode_of-ok}
+use Rattle.hex.proofs.HexLemmas.{decode_of-ok, decode_of-odd, decode_sized-odd, decode_sized-twice}
 use Rattle.wl_top.specs.declared.line.Kind.{Kind}
 use Rattle.wl_top.specs.declared.line.Kind.TheVariants.{Elements, Action, AssocAsk, AssocReply, Frame}
-use Rattle.wl_top.specs.Line.{Lacks, IsSplitAt, without_last, lines_of, kind_word, IsKindLine, IsHexLine, IsOnlyReading, IsLineFault, IsFaultOfDigits}
+use Rattle.wl_top.specs.Line.{Lacks, IsSplitAt, without_last, lines_of, kind_word, IsKindLine, IsHexLine, IsOnlyReading, IsNoHexLine}
+
+parity : (n : ℕ) → (n % 2 ≡ 0) ⊎ (n % 2 ≡ 1)
+parity n = elim (eqb_tells (n % 2) 0) [ inl even ↦ inl even.1 | inr odd ↦ inr (omega (arith, odd.1)) ]
+
+abbrev err_octets : FromHexError → Result (List ℕ) FromHexError
+err_octets e = Err e
+
+abbrev failure : FromHexError → Result Unit FromHexError
+failure e = Err e
+
+same_error : (d e : FromHexError) → failure d ≡ failure e → d ≡ e
+same_error d e h = cc
 
 abbrev ok_octets : List ℕ → Result (List ℕ) FromHexError
 ok_octets octets = Ok octets
@@ -173,10 +183,27 @@ only_bare line lacks other octets (more, is_line, decoded) = bare_reading line o
 pub not_read : (line digits : List ℕ) (kind : Kind) (e : FromHexError) → IsOnlyReading line kind digits → decode_of digits ≡ Err e → (other : Kind) (octets : List ℕ) → IsHexLine line other octets → ⊥
 not_read line digits kind e only failed other octets reading = absurd (cc ((only other octets reading).1, failed))
 
-pub fault_of_line : (line digits : List ℕ) (kind : Kind) (e : FromHexError) (fault : LineFault) → IsOnlyReading line kind digits → (e ≡ OutOfMemory) ⊎ (decode_of digits ≡ Err e) → IsFaultOfDigits e fault → IsLineFault line fault
-fault_of_line line digits kind e NotHex only (inl memory) other = absurd (other memory)
-fault_of_line line digits kind e NotHex only (inr failed) other = not_read line digits kind e only failed
-fault_of_line line digits kind e Memory only failed other = tt
+-- room for half as many octets as there are digits is the room that they want
+same_decoding : (digits : List ℕ) → decode_sized digits (length digits / 2) ≡ decode_of digits
+same_decoding digits =
+    elim (parity (length digits)) [
+      | inl even ↦ decode_sized-twice digits (length digits / 2) (omega arith)
+      | inr odd ↦ decode_sized-odd digits (length digits / 2) odd ∙ sym (decode_of-odd digits odd)
+    ]
+
+abbrev IsDecodedTo : Result (List ℕ) FromHexError → Result Unit FromHexError → List ℕ → Type 0
+IsDecodedTo read answer octets = MatchResult read (λ bytes. (answer ≡ Ok tt) × (octets ≡ bytes)) (λ e. answer ≡ Err e)
+
+is_failed : (read : Result (List ℕ) FromHexError) (answer : Result Unit FromHexError) (octets : List ℕ) (e : FromHexError) → IsDecodedTo read answer octets → answer ≡ Err e → read ≡ Err e
+is_failed (Ok bytes) answer octets e decoded err = absurd (cc (decoded.0, err))
+is_failed (Err d) answer octets e failed err = let same : d ≡ e = same_error d e (sym failed ∙ err) in ap err_octets same
+
+pub error_of_digits : (digits octets : List ℕ) (room : ℕ) (answer : Result Unit FromHexError) (e : FromHexError) → room ≡ length digits / 2 → IsDecodedTo (decode_sized digits room) answer octets → answer ≡ Err e → decode_of digits ≡ Err e
+error_of_digits digits octets room answer e half decoded err =
+    sym (same_decoding digits) ∙ ap (decode_sized digits) (sym half) ∙ is_failed (decode_sized digits room) answer octets e decoded err
+
+pub not_hex : (line digits : List ℕ) (kind : Kind) (e : FromHexError) → IsOnlyReading line kind digits → decode_of digits ≡ Err e → IsNoHexLine line
+not_hex line digits kind e only failed = not_read line digits kind e only failed
 
 pub few_octets : (digits octets : List ℕ) → decode_of digits ≡ Ok octets → length digits ≡ 2 * length octets
 few_octets digits octets e = (decode_of-ok digits octets e).2

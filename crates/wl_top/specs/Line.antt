@@ -1,13 +1,11 @@
 -- The lines of an input, and hex lines.
-use Rattle.std.specs.Prelude.{◌≡◌, ◌≢◌, ℕ, ◌==◌, false, List, [], ◌∷◌, ◌++◌, map, codes, Ok, ◌⊎◌}
+use Rattle.std.specs.Prelude.{◌≡◌, ℕ, ◌==◌, false, List, [], ◌∷◌, ◌++◌, map, codes, Ok, ◌⊎◌}
 use Rattle.std.specs.List.{slice_split, AllByRecursion}
 use Rattle.std.specs.Str.Lines.{strip_carriage_return}
 use Rattle.hex.specs.Hex.{decode_of}
 use Rattle.wl_top.specs.declared.line.Kind.{Kind}
 use Rattle.wl_top.specs.declared.line.LineFault.{LineFault}
 use Rattle.wl_top.specs.declared.line.LineFault.TheVariants.{NotHex, Memory}
-use Rattle.hex.specs.declared.error.FromHexError.{FromHexError}
-use Rattle.hex.specs.declared.error.FromHexError.TheVariants.{OutOfMemory}
 use Rattle.wl_top.specs.declared.line.Kind.TheVariants.{Elements, Action, AssocAsk, AssocReply, Frame}
 
 -- the octet stands nowhere in the octets
@@ -57,8 +55,3 @@ IsNoHexLine line = (kind : Kind) (octets : List ℕ) → IsHexLine line kind oct
 abbrev pub IsLineFault : List ℕ → LineFault → Type 0
 IsLineFault line NotHex = IsNoHexLine line
 IsLineFault line Memory = Unit {0}
-
--- what an error of the digits says of the line
-abbrev pub IsFaultOfDigits : FromHexError → LineFault → Type 0
-IsFaultOfDigits e NotHex = e ≢ OutOfMemory
-IsFaultOfDigits e Memory = Unit {0}

@@ -6,7 +6,7 @@ ghost use Rattle.wl_elem.specs.Element.{body_limit};
 ghost use Rattle.wl_top.specs.Line.{lines_of, IsLineFault};
 ghost use Rattle.wl_top.specs.Decoded.{ShownLines, IsTextFault, IsFaultAt, AddsLine};
 
-use crate::line::{LineFault, first_line, hex_line};
+use crate::line::{LineFault, first_line, read_hex_line};
 use crate::shown::push_shown;
 use std::alloc::Global;
 use wl_elem::Memory;
@@ -20,9 +20,11 @@ pub enum TextFault {
     Memory,
 }
 
-/// Adds what is shown for a line, and its line end. NotHex exactly where it is no hex line.
+/// Adds what is shown for a line, and its line end. NotHex exactly where it is no hex line. `octets`
+/// and `scratch` are any, whose room serves from one line to the next.
 fn push_line(
     alloc: Global,
+    octets: &mut Vec<u8>,
     scratch: &mut String,
     out: &mut String,
     line: &[u8],
@@ -31,11 +33,11 @@ fn push_line(
     ensures shown { OnOk result (AddsLine line.now (string_bytes out.old) (string_bytes out.new)) }
     ensures refused { IfErr result (IsLineFault line.now) }
 {
-    let hex = match hex_line(alloc, line) {
-        Ok(hex) => hex,
+    let kind = match read_hex_line(line, octets) {
+        Ok(kind) => kind,
         Err(fault) => return Err(fault),
     };
-    match push_shown(alloc, scratch, out, &hex) {
+    match push_shown(alloc, scratch, out, kind, octets.as_slice()) {
         Ok(()) => {}
         Err(Memory) => return Err(LineFault::Memory),
     }
@@ -62,6 +64,7 @@ pub fn shown_lines(alloc: Global, input: &[u8]) -> Result<String, TextFault>
     ensures shown { IfOk result (λ text. ShownLines (lines_of input.now) (string_bytes text)) }
     ensures fault { IfErr result (IsTextFault (lines_of input.now)) }
 {
+    let mut octets = Vec::new(alloc);
     let mut scratch = String::new(alloc);
     let mut out = String::new(alloc);
     let mut rest = input;
@@ -69,7 +72,7 @@ pub fn shown_lines(alloc: Global, input: &[u8]) -> Result<String, TextFault>
     'lines: while !rest.is_empty() {
         let (line, after) = first_line(rest);
         number += 1;
-        match push_line(alloc, &mut scratch, &mut out, line) {
+        match push_line(alloc, &mut octets, &mut scratch, &mut out, line) {
             Ok(()) => {}
             Err(fault) => return Err(text_fault(number, fault)),
         }

@@ -11,7 +11,7 @@ mod show;
 mod shown;
 
 pub use laws::{refused_once, shown_once, shown_or_refused};
-pub use line::{HexLine, Kind};
+pub use line::Kind;
 pub use run::{Ending, Outcome, mld_run};
 
 #[cfg(test)]

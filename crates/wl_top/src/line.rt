@@ -1,12 +1,9 @@
 //! Lines of an input, and hex lines.
 
-ghost use Rattle.std.specs.Prelude.{◌≡◌, ◌<◌, ◌≤◌, ◌+◌, ◌*◌, ◌∷◌, ◌++◌, ℕ, List, length, IfErr, IfOk, IsNone, IfSome};
+ghost use Rattle.std.specs.Prelude.{◌≡◌, ◌<◌, ◌≤◌, ◌+◌, ◌*◌, ◌∷◌, ◌++◌, ℕ, List, length, IfErr, IfOk, OnOk, IsNone, IfSome};
 ghost use Rattle.std.specs.Str.Lines.{strip_carriage_return};
-ghost use Rattle.wl_top.specs.Line.{Lacks, IsSplitAt, kind_word, IsKindLine, IsOnlyReading, IsHexLine, IsNoHexLine, IsLineFault, IsFaultOfDigits, lines_of};
+ghost use Rattle.wl_top.specs.Line.{Lacks, IsSplitAt, kind_word, IsKindLine, IsOnlyReading, IsHexLine, IsNoHexLine, IsLineFault, lines_of};
 ghost use Rattle.wl_top.specs.declared.line.Kind.{Kind};
-
-use hex::FromHexError;
-use std::alloc::Global;
 
 /// What the octets of a hex line are.
 #[derive(Clone, Copy, Debug, PartialEq, Eq)]
@@ -21,13 +18,6 @@ pub enum Kind {
     AssocReply,
     /// A protected frame, as `frame`.
     Frame,
-}
-
-/// A hex line: its kind and its octets.
-#[derive(Debug, Drop)]
-pub struct HexLine {
-    pub kind: Kind,
-    pub octets: Vec<u8>,
 }
 
 /// Why a line wasn't read.
@@ -113,30 +103,23 @@ fn split_kind(line: &[u8]) -> Option<(Kind, &[u8])>
     }
 }
 
-/// What an error of the digits says of the line.
-fn line_fault(e: FromHexError) -> LineFault
-    ensures { IsFaultOfDigits e result }
-{
-    match e {
-        FromHexError::OutOfMemory => LineFault::Memory,
-        FromHexError::InvalidHexCharacter { .. }
-        | FromHexError::OddLength
-        | FromHexError::InvalidStringLength => LineFault::NotHex,
-    }
-}
-
-/// Reads a hex line. NotHex exactly where it isn't one.
-pub fn hex_line(alloc: Global, line: &[u8]) -> Result<HexLine, LineFault>
-    ensures read { IfOk result (λ hex. IsHexLine line.now hex.kind hex.octets.items) }
-    ensures bound { IfOk result (λ hex. 2 * length hex.octets.items ≤ length line.now) }
+/// Reads a hex line: answers its kind, and makes `octets` its octets. NotHex exactly where it is no
+/// hex line; after a fault `octets` has no meaning.
+pub fn read_hex_line(line: &[u8], octets: &mut Vec<u8>) -> Result<Kind, LineFault>
+    ensures read { IfOk result (λ kind. IsHexLine line.now kind octets.new.items) }
+    ensures bound { OnOk result (2 * length octets.new.items ≤ length line.now) }
     ensures refused { IfErr result (IsLineFault line.now) }
 {
     let (kind, digits) = match split_kind(line) {
         Some(parts) => parts,
         None => return Err(LineFault::NotHex),
     };
-    match hex::decode(alloc, digits) {
-        Ok(octets) => Ok(HexLine { kind, octets }),
-        Err(e) => Err(line_fault(e)),
+    octets.clear();
+    if octets.resize(digits.len() / 2, 0).is_err() {
+        return Err(LineFault::Memory);
+    }
+    match hex::decode_to_slice(digits, octets.as_mut_slice()) {
+        Ok(()) => Ok(kind),
+        Err(_) => Err(LineFault::NotHex),
     }
 }

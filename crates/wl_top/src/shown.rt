@@ -1,4 +1,4 @@
-//! The shown line of a hex line.
+//! The shown line of some octets.
 
 ghost use Rattle.std.specs.Prelude.{◌≤◌, length, OnOk};
 ghost use Rattle.std.specs.String.{string_bytes};
@@ -7,7 +7,7 @@ ghost use Rattle.wl_top.specs.Shown.{AddsShown};
 ghost use Rattle.wl_top.specs.declared.line.Kind.TheVariants.{Elements};
 
 use crate::item::{not_built, put_list};
-use crate::line::{HexLine, Kind};
+use crate::line::Kind;
 use crate::show::push_refusal;
 use std::alloc::Global;
 use wl_elem::{Fault, Memory};
@@ -34,19 +34,20 @@ fn push_list(
     }
 }
 
-/// Adds the line that is shown for a hex line, without its end. Kinds other than elements are shown
-/// as NotBuilt. `scratch` is any text, whose room serves from one line to the next.
+/// Adds the line that is shown for octets of a kind, without its end. Kinds other than elements are
+/// shown as NotBuilt. `scratch` is any text, whose room serves from one line to the next.
 pub fn push_shown(
     alloc: Global,
     scratch: &mut String,
     out: &mut String,
-    hex: &HexLine,
+    kind: Kind,
+    octets: &[u8],
 ) -> Result<(), Memory>
-    requires { length hex.now.octets.items ≤ body_limit }
-    ensures { OnOk result (AddsShown hex.now.kind hex.now.octets.items (string_bytes out.old) (string_bytes out.new)) }
+    requires { length octets.now ≤ body_limit }
+    ensures { OnOk result (AddsShown kind octets.now (string_bytes out.old) (string_bytes out.new)) }
 {
-    match hex.kind {
-        Kind::Elements => push_list(alloc, scratch, out, hex.octets.as_slice()),
+    match kind {
+        Kind::Elements => push_list(alloc, scratch, out, octets),
         Kind::Action | Kind::AssocAsk | Kind::AssocReply | Kind::Frame => {
             push_refusal(out, &not_built())
         }

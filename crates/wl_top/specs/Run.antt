@@ -1,7 +1,7 @@
 -- A run of the program: how it ends, and why.
-use Rattle.std.specs.Prelude.{◌≡◌, ◌≢◌, ℕ, List, [], ◌∷◌, Option, codes}
+use Rattle.std.specs.Prelude.{◌≡◌, ◌≢◌, ℕ, ◌+◌, ◌≤◌, List, [], ◌∷◌, length, Option, codes}
 use Rattle.wl_io.specs.Faults.{Rose}
-use Rattle.wl_io.specs.Reading.{AreAll, IsTooLong}
+use Rattle.wl_io.specs.Reading.{AreAll, IsTooLong, read_limit}
 use Rattle.wl_io.specs.Sink.{Takes}
 use Rattle.wl_io.specs.Writing.{IsWriteFault}
 use Rattle.wl_top.specs.declared.run.Outcome.{Outcome}
@@ -41,16 +41,20 @@ outcome_of (WriteFault taken) = record { status = 4; place = taken }
 outcome_of (TooLong count) = record { status = 8; place = count }
 outcome_of Memory = record { status = 9; place = 0 }
 
+-- the whole input was read: this text, which is no longer than may be read
+abbrev pub IsInput : Call → List ℕ → Type 0
+IsInput call text = AreAll call.left call.left' text × (length text ≤ read_limit)
+
 -- the whole input was read, and this is shown for it
 abbrev pub IsShown : Call → List ℕ → Type 0
-IsShown call shown = (text : List ℕ) × AreAll call.left call.left' text × ShownLines (lines_of text) shown
+IsShown call shown = (text : List ℕ) × IsInput call text × ShownLines (lines_of text) shown
 
 -- the causes of an ending, and what it leaves; want of memory has none
 abbrev pub Ends : Call → Ending → Type 0
 Ends call Usage = (call.words ≢ codes "decode" ∷ []) × IsUnwritten call
 Ends call ReadFault = IsCommand call.words × Rose call.read_faults call.read_faults' × IsUnwritten call
-Ends call (TooLong count) = IsCommand call.words × (count ≡ 16777217) × IsTooLong call.left call.left' × IsUnwritten call
-Ends call (Refused line) = IsCommand call.words × (text : List ℕ) × AreAll call.left call.left' text × IsFirstBad (lines_of text) line × IsUnwritten call
+Ends call (TooLong count) = IsCommand call.words × (count ≡ read_limit + 1) × IsTooLong call.left call.left' × IsUnwritten call
+Ends call (Refused line) = IsCommand call.words × (text : List ℕ) × IsInput call text × IsFirstBad (lines_of text) line × IsUnwritten call
 Ends call Done = IsCommand call.words × (shown : List ℕ) × IsShown call shown × Takes call.taken call.taken' shown
 Ends call (WriteFault count) = IsCommand call.words × (shown : List ℕ) × IsShown call shown × IsWriteFault call.taken call.taken' call.write_faults call.write_faults' shown count
 Ends call Memory = IsCommand call.words × IsUnwritten call

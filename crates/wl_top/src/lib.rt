@@ -10,7 +10,7 @@ mod run;
 mod show;
 mod shown;
 
-pub use laws::{refused_once, shown_once, shown_or_refused};
+pub use laws::{read_or_too_long, refused_once, shown_once, shown_or_refused};
 pub use line::Kind;
 pub use run::{Ending, Outcome, mld_run};
 

@@ -9,3 +9,4 @@ pub mod Encoding
 pub mod Finding
 pub mod Octets
 pub mod Links
+pub mod Lanes

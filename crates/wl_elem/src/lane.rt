@@ -1,6 +1,7 @@
 //! Ends, directions, TIDs and lanes.
 
 ghost use Rattle.std.specs.Prelude.{◌≡◌, ◌↔◌, ◌<◌, IsSome, IfSome};
+ghost use Rattle.wl_elem.specs.Lanes.{lane_index, lane_count, peer_of};
 
 use std::marker::Model;
 
@@ -49,6 +50,18 @@ pub enum EndId {
     Sta,
 }
 
+impl EndId {
+    /// The other end.
+    pub fn peer(self) -> EndId
+        ensures { result ≡ peer_of self }
+    {
+        match self {
+            EndId::Ap => EndId::Sta,
+            EndId::Sta => EndId::Ap,
+        }
+    }
+}
+
 /// The direction of data.
 #[derive(Clone, Copy, Debug, PartialEq, Eq)]
 pub enum Direction {
@@ -65,4 +78,17 @@ pub enum Lane {
     Tid(Tid),
     /// Management bodies.
     Management,
+}
+
+impl Lane {
+    /// The place of the lane among all nine: a TID is its own number, management is 8.
+    pub fn index(self) -> u8
+        ensures place { result ≡ lane_index self }
+        ensures bound { result < lane_count }
+    {
+        match self {
+            Lane::Tid(tid) => tid.tid,
+            Lane::Management => 8,
+        }
+    }
 }

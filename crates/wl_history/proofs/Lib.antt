@@ -1,0 +1,9 @@
+pub mod Lanes
+pub mod Hands
+pub mod Sender
+pub mod Booking
+pub mod Growing
+pub mod Receiving
+pub mod Cases
+pub mod Sound
+pub mod Safety

@@ -1,0 +1,50 @@
+-- What an end starts with: addresses, links, sizes.
+use Rattle.std.specs.Prelude.{ℕ, ◌==◌, ◌&&◌, if◌then◌else◌, Bool, is_some, List, [], ◌∷◌, Option, Some, None}
+use Rattle.wl_elem.specs.declared.lane.EndId.{EndId}
+use Rattle.wl_elem.specs.declared.lane.EndId.TheVariants.{Ap, Sta}
+use Rattle.wl_elem.specs.declared.lane.Lane.TheVariants.{Management}
+use Rattle.wl_elem.specs.Lanes.{lane_index}
+use Rattle.wl_history.specs.declared.start.LinkStart.{LinkStart}
+use Rattle.wl_history.specs.declared.start.EndStart.{EndStart}
+use Rattle.wl_history.specs.declared.start.Start.{Start}
+
+abbrev pub start_of : Start → EndId → EndStart
+start_of start Ap = start.ap
+start_of start Sta = start.sta
+
+-- the MLD address of an end
+abbrev pub mld_of : EndStart → EndId → List ℕ
+mld_of start Ap = start.ap
+mld_of start Sta = start.sta
+
+-- the address of an end on a link
+abbrev pub address_on : LinkStart → EndId → List ℕ
+address_on link Ap = link.ap
+address_on link Sta = link.sta
+
+abbrev pub link_at : ℕ → List LinkStart → Option LinkStart
+link_at id [] = None
+link_at id (link ∷ links) = if link.id == id then Some link else link_at id links
+
+-- the address of an end on the link of this ID, none where there is no such link
+abbrev pub address_if : Option LinkStart → EndId → List ℕ
+address_if None end = []
+address_if (Some link) end = address_on link end
+
+abbrev pub link_address : EndStart → ℕ → EndId → List ℕ
+link_address start id end = address_if (link_at id start.links) end
+
+abbrev pub is_link : EndStart → ℕ → Bool
+is_link start id = is_some (link_at id start.links)
+
+-- the links set up at the start: all, or none
+abbrev pub is_set_up : EndStart → ℕ → Bool
+is_set_up start id = start.associated && is_link start id
+
+-- how many positions from its base on an originator may have granted, by the place of the lane
+abbrev pub send_size : EndStart → ℕ → ℕ
+send_size start place = if place == lane_index Management then 16 else start.window
+
+-- how many numbers a recipient's window has, by the place of the lane
+abbrev pub receive_size : EndStart → ℕ → ℕ
+receive_size start place = if place == lane_index Management then 1 else start.window

@@ -1,0 +1,9 @@
+pub mod Ends
+pub mod Hands
+pub mod Words
+pub mod Sender
+pub mod EndState
+pub mod Answers
+pub mod Hearing
+pub mod Legal
+pub mod Safe

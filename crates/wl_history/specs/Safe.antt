@@ -1,0 +1,105 @@
+-- Safe histories.
+use Rattle.std.specs.Prelude.{◌≡◌, ℕ, ◌<◌, true, List, [], ◌∷◌, length, Option, Some, None, Result}
+use Rattle.std.specs.List.{AllByRecursion, Contains}
+use Rattle.wl_elem.specs.declared.fault.Refusal.{Refusal}
+use Rattle.wl_elem.specs.declared.lane.EndId.{EndId}
+use Rattle.wl_elem.specs.declared.lane.Lane.{Lane}
+use Rattle.wl_elem.specs.Lanes.{peer_of, lane_index}
+use Rattle.wl_frame.specs.Sealing.{Sealing}
+use Rattle.wl_frame.specs.Frame.{FrameValue}
+use Rattle.wl_frame.specs.Refusals.{ReadAs}
+use Rattle.wl_number.specs.declared.numbers.Numbers.{Numbers}
+use Rattle.wl_number.specs.OrderRule.{OrderRule, list_of}
+use Rattle.wl_replay.specs.Keys.{Holds}
+use Rattle.wl_history.specs.declared.command.Command.{Command}
+use Rattle.wl_history.specs.declared.command.Command.TheVariants as commands
+use Rattle.wl_history.specs.declared.outcome.Outcome.{Outcome}
+use Rattle.wl_history.specs.declared.outcome.Outcome.TheVariants as outcomes
+use Rattle.wl_history.specs.declared.arrival.Arrival.{Arrival}
+use Rattle.wl_history.specs.declared.start.EndStart.{EndStart}
+use Rattle.wl_history.specs.declared.start.Start.{Start}
+use Rattle.wl_history.specs.declared.step.Step.{Step}
+use Rattle.wl_history.specs.Ends.{start_of, is_set_up}
+use Rattle.wl_history.specs.Words.{queued, body_at, booked, Airing, airings, receiving}
+use Rattle.wl_history.specs.Hearing.{Closed, ToOpen, judged, octets_of, opened_under, sealed_under, text_of}
+use Rattle.wl_history.specs.Legal.{frame_named, newest}
+
+-- Order: of what a lane released, the latest first, each has a higher position than those before it.
+abbrev pub InOrder : List Arrival → Type 0
+InOrder [] = Unit {0}
+InOrder (item ∷ before) = AllByRecursion (λ other. other.numbers.pos < item.numbers.pos) before × InOrder before
+
+-- the body is the one queued at the position
+pub record IsQueued (queue : List (List ℕ)) (pos : ℕ) (body : List ℕ) : Type 0 where
+  pub within : pos < length queue
+  pub same : body ≡ body_at queue pos
+
+pub record OrderKept (start : Start) (e : EndId) (l : ℕ) (steps : List Step) : Type 0 where
+  pub in_order : InOrder (receiving (start_of start e) e l steps).released
+  pub queued_there : AllByRecursion (λ item. IsQueued (queued (peer_of e) l steps) item.numbers.pos item.body) (receiving (start_of start e) e l steps).released
+
+-- Number: the text that an aired frame carries
+abbrev pub text_aired : Sealing → EndStart → EndId → Airing → List ℕ
+text_aired text start sender a = text_of text (sealed_under start sender a.lane a.numbers a.body)
+
+-- two frames aired under one key and packet number carry one text of one booking
+pub record IsSame (text : Sealing) (start : EndStart) (sender : EndId) (a b : Airing) : Type 0 where
+  pub lane : a.lane ≡ b.lane
+  pub numbers : a.numbers ≡ b.numbers
+  pub text_alike : text_aired text start sender a ≡ text_aired text start sender b
+
+pub record NumbersKept (text : Sealing) (start : Start) (e : EndId) (steps : List Step) : Type 0 where
+  -- no two bookings share key and packet number
+  pub rule : OrderRule (booked e steps)
+  pub booked_queued : (lane : Lane) (n : Numbers) → Contains (list_of (booked e steps) lane) n → n.pos < length (queued e (lane_index lane) steps)
+  pub aired_booked : (a : Airing) → Contains (airings e steps) a → Contains (list_of (booked e steps) a.lane) a.numbers
+  pub one_text : (a b : Airing) → Contains (airings e steps) a → Contains (airings e steps) b
+      → a.numbers.key ≡ b.numbers.key → a.numbers.pn ≡ b.numbers.pn → IsSame text (start_of start e) e a b
+
+-- Link: a frame goes only to a link that its sender has set up and maps the lane to
+abbrev pub PutAllowed : EndStart → ℕ → Outcome → Type 0
+PutAllowed start link (outcomes.Put lane n retry) = is_set_up start link ≡ true
+PutAllowed start link other = Unit {0}
+
+abbrev pub StepAllowed : Start → Command → Outcome → Type 0
+StepAllowed start (commands.Put end link) outcome = PutAllowed (start_of start end) link outcome
+StepAllowed start other outcome = Unit {0}
+
+abbrev pub LinksKept : Start → List Step → Type 0
+LinksKept start [] = Unit {0}
+LinksKept start (step ∷ before) = LinksKept start before × StepAllowed start step.command step.outcome
+
+-- Key: a body is stored only from a frame that opened under a key that the receiver held, to the body
+-- of a booking of its sender
+pub record OpenedUnder (text : Sealing) (start : EndStart) (e : EndId) (before : List Step) (link : ℕ) (lane : Lane) (n : Numbers) (a : Airing) : Type 0 where
+  pub reading : Result FrameValue Refusal
+  pub read : ReadAs (octets_of text start (peer_of e) a) reading
+  pub closed : Closed
+  pub to_open : judged start e (newest start before) link reading ≡ ToOpen closed
+  pub lane_same : closed.lane ≡ lane
+  pub key_held : Holds (newest start before) n.key
+  pub of_sender : Contains (list_of (booked (peer_of e) before) lane) n
+  pub opens : text_of text (opened_under start e closed (body_at (queued (peer_of e) (lane_index lane) before) n.pos)) ≡ closed.payload
+
+abbrev pub FrameOpened : Sealing → EndStart → EndId → List Step → ℕ → Lane → Numbers → Option Airing → Type 0
+FrameOpened text start e before link lane n None = ⊥
+FrameOpened text start e before link lane n (Some a) = OpenedUnder text start e before link lane n a
+
+abbrev pub HeardOpened : Sealing → EndStart → EndId → List Step → ℕ → Option ℕ → Outcome → Type 0
+HeardOpened text start e before link nth (outcomes.Stored lane number n up) = FrameOpened text start e before link lane n (frame_named e before link nth)
+HeardOpened text start e before link nth other = Unit {0}
+
+abbrev pub StepOpened : Sealing → Start → List Step → Command → Outcome → Type 0
+StepOpened text start before (commands.Deliver end link nth) outcome = HeardOpened text (start_of start end) end before link nth outcome
+StepOpened text start before other outcome = Unit {0}
+
+abbrev pub KeysKept : Sealing → Start → List Step → Type 0
+KeysKept text start [] = Unit {0}
+KeysKept text start (step ∷ before) = KeysKept text start before × StepOpened text start before step.command step.outcome
+
+-- All four, at both ends.
+pub record Safe (text : Sealing) (start : Start) (steps : List Step) : Type 0 where
+  pub order : (e : EndId) (lane : Lane) → OrderKept start e (lane_index lane) steps
+  pub numbers : (e : EndId) → NumbersKept text start e steps
+  pub links : LinksKept start steps
+  pub keys : KeysKept text start steps

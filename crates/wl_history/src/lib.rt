@@ -1,0 +1,32 @@
+//! What a history of two ends is: its commands, answers and steps, and what each means.
+#![tactic(auto)]
+
+mod ack;
+mod arrival;
+mod command;
+mod hand;
+mod laws;
+mod lists;
+mod opened;
+mod outcome;
+mod script;
+mod start;
+mod step;
+
+pub use ack::Ack;
+pub use arrival::Arrival;
+pub use command::Command;
+pub use hand::Hand;
+pub use laws::{
+    ack_keeps, every_history_is_safe, sender_books, sender_gives_back, sender_reserves,
+    sender_stays,
+};
+pub use lists::{Positions, SequenceNumbers};
+pub use opened::Opened;
+pub use outcome::{KeptWhy, Outcome};
+pub use script::{Item, Plain, Script};
+pub use start::{EndStart, LinkStart, LinkStarts, Start};
+pub use step::{Journal, Step, Steps};
+
+#[cfg(test)]
+mod tests;

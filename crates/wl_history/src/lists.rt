@@ -1,0 +1,79 @@
+//! Lists of numbers in answers.
+
+ghost use Rattle.std.specs.Prelude.{◌≡◌, ◌++◌, ◌∷◌, [], OnOk, OnErr, IfOk};
+
+use std::alloc::Global;
+use std::marker::Model;
+use wl_elem::Memory;
+
+/// Positions in a lane's queue, in the order in which they were released.
+#[derive(Debug, Drop)]
+pub struct Positions {
+    list: Vec<u32>,
+}
+
+impl Model for Positions {
+    ghost use Rattle.std.specs.Prelude.{List, ℕ};
+
+    ghost Value = { List ℕ };
+
+    ghost view = { λ p. p.list.items };
+}
+
+impl Positions {
+    /// No positions. It takes no memory.
+    pub fn new(alloc: Global) -> Positions
+        ensures { result ≡ [] }
+    {
+        Positions {
+            list: Vec::new(alloc),
+        }
+    }
+
+    /// Adds a position at the end. After `Memory` the list is as it was.
+    pub fn push(&mut self, pos: u32) -> Result<(), Memory>
+        ensures ok { OnOk result (self.new ≡ self.old ++ pos ∷ []) }
+        ensures err { OnErr result (self.new ≡ self.old) }
+    {
+        self.list.push(pos)?;
+        Ok(())
+    }
+
+    /// The positions as a slice.
+    pub fn as_slice(&self) -> &[u32]
+        ensures { result.now ≡ self.now }
+    {
+        self.list.as_slice()
+    }
+}
+
+/// Sequence numbers below 4,096, in window order.
+#[derive(Debug, Drop)]
+pub struct SequenceNumbers {
+    list: Vec<u16>,
+}
+
+impl Model for SequenceNumbers {
+    ghost use Rattle.std.specs.Prelude.{List, ℕ};
+
+    ghost Value = { List ℕ };
+
+    ghost view = { λ n. n.list.items };
+}
+
+impl SequenceNumbers {
+    /// A copy of these numbers.
+    pub fn from_slice(alloc: Global, numbers: &[u16]) -> Result<SequenceNumbers, Memory>
+        ensures { IfOk result (λ n. n ≡ numbers.now) }
+    {
+        let list = Vec::from_slice(alloc, numbers)?;
+        Ok(SequenceNumbers { list })
+    }
+
+    /// The numbers as a slice.
+    pub fn as_slice(&self) -> &[u16]
+        ensures { result.now ≡ self.now }
+    {
+        self.list.as_slice()
+    }
+}

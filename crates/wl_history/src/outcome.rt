@@ -1,0 +1,112 @@
+//! Answers.
+
+use crate::lists::{Positions, SequenceNumbers};
+use wl_elem::{Lane, Why};
+use wl_number::Numbers;
+
+/// Why a booking isn't sent over a link.
+#[derive(Clone, Copy, Debug, PartialEq, Eq)]
+pub enum KeptWhy {
+    /// The link isn't set up at the sender.
+    NotSetUp,
+}
+
+/// What a command is answered.
+#[derive(Debug, Drop)]
+pub enum Outcome {
+    /// The MSDU is in the queue.
+    Queued {
+        /// Its position, from 0.
+        pos: u32,
+    },
+    /// The hand holds a reserve.
+    Reserved,
+    /// The hand holds a reserve or a booking already.
+    HandFull,
+    /// Each body of the queue has its reserve.
+    NothingQueued,
+    /// The window has no room.
+    WindowFull,
+    /// The hand holds a booking.
+    Booked {
+        /// The lane of the reserve.
+        lane: Lane,
+        /// Position, key number and packet number.
+        numbers: Numbers,
+    },
+    /// The hand holds no reserve.
+    NoReserve,
+    /// The last packet number of the key was used. The reserve was given back.
+    Spent {
+        /// The lane of the reserve.
+        lane: Lane,
+    },
+    /// The frame was sent.
+    Put {
+        /// The lane of the booking.
+        lane: Lane,
+        /// Position, key number and packet number.
+        numbers: Numbers,
+        /// Whether it was sent before.
+        retry: bool,
+    },
+    /// The booking may not go over this link, and stays.
+    Kept {
+        /// The lane of the booking.
+        lane: Lane,
+        /// Its position.
+        pos: u32,
+        /// Why.
+        why: KeptWhy,
+    },
+    /// The hand holds no booking, or it is done.
+    Nothing,
+    /// There is no such frame or record.
+    NotThere,
+    /// The octets aren't a frame for this end.
+    BadFrame {
+        /// The refusal.
+        why: Why,
+        /// Its place in the octets.
+        place: u32,
+    },
+    /// The link isn't set up at the receiver.
+    LinkDown,
+    /// An association frame of no use.
+    Ignored,
+    /// No key of the frame's key ID is held.
+    NoKey,
+    /// The payload doesn't open.
+    NotOpened,
+    /// The packet number isn't above that of the last body released.
+    Replay,
+    /// The sequence number lies behind the window.
+    OldNumber,
+    /// The sequence number is stored already.
+    Double,
+    /// The body was stored.
+    Stored {
+        /// Its lane.
+        lane: Lane,
+        /// The frame's sequence number.
+        number: u16,
+        /// The numbers of the sender's booking.
+        numbers: Numbers,
+        /// The positions released in this step, in order.
+        up: Positions,
+    },
+    /// The lane is acknowledged.
+    Acked {
+        /// The window's start, modulo 4,096.
+        start: u16,
+        /// The sequence numbers stored, in window order.
+        stored: SequenceNumbers,
+    },
+    /// The acknowledgement is older than the window.
+    OldAck,
+    /// The acknowledgement was taken.
+    Done {
+        /// How many positions are done since.
+        count: u32,
+    },
+}

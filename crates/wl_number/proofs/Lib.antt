@@ -1,0 +1,5 @@
+pub mod Pairs
+pub mod Lists
+pub mod Lanes
+pub mod Rule
+pub mod Drawing

@@ -1,0 +1,4 @@
+pub mod NumberObject
+pub mod OrderRule
+pub mod Bookings
+pub mod Places

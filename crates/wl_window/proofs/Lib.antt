@@ -1,0 +1,9 @@
+pub mod Arriving
+pub mod Deciding
+pub mod InPlace
+pub mod Keeping
+pub mod Marking
+pub mod Moving
+pub mod Placing
+pub mod Settling
+pub mod Booked

@@ -1,0 +1,211 @@
+//! The recipient's window.
+
+ghost use Rattle.std.specs.Prelude.{◌≡◌, ◌+◌, ◌-◌, ◌^◌, ◌<◌, ◌≤◌, ℕ, Bool, true, false, [], ◌∷◌, length, Result, IfOk, IfErr, IfSome, IfNone, MatchResult, is_some};
+ghost use Rattle.std.specs.List.{insert as inserted};
+ghost use Rattle.std.specs.VecDeque.{deque_len, deque_capacity};
+ghost use Rattle.wl_window.specs.Numbering.{distance};
+ghost use Rattle.wl_window.specs.Queue.{received};
+ghost use Rattle.wl_window.specs.Placing.{IsGap, Takes};
+ghost use Rattle.wl_window.specs.Reordering.{holds, IsRising, advanced};
+
+use crate::numbering::distance_to;
+use crate::numbers12::Numbers12;
+use crate::refusal::ArriveRefusal;
+use crate::slot::Slot;
+use crate::ups::Ups;
+use std::alloc::Global;
+use std::collections::VecDeque;
+use std::marker::Model;
+use wl_elem::Memory;
+
+/// The receive reordering buffer of a block ack agreement (IEEE Std 802.11, 10.25.6).
+///
+/// ```text
+///   passed up or given up │ start                         start + size │ ahead
+///   ──────────────────────┼───────────────────────────────────────────┼──────
+///                         │  missing   stored   missing   stored       │
+/// ```
+///
+/// The number at the start is missing; what is stored waits for it. A number past the end moves the
+/// window, so that it is the last one. Numbers on the air have 12 bits: one that is less than 2,048
+/// ahead of the start is ahead, every other one is behind. A sender that keeps within its window is
+/// never so far off, since windows have at most 1,024 numbers.
+#[derive(Debug, Drop)]
+pub struct Reorder<T> {
+    /// The first number that was neither passed up nor given up, in full.
+    start: u32,
+    /// The greatest size.
+    room: u16,
+    /// What is stored, by rising number.
+    slots: VecDeque<Slot<T>>,
+}
+
+impl<T> Model for Reorder<T> {
+    ghost use Rattle.wl_window.specs.Reordering.{Store};
+
+    ghost Value = { Store T };
+
+    ghost use Rattle.std.specs.Prelude.{◌≤◌};
+    ghost use Rattle.std.specs.VecDeque.{deque_capacity};
+    ghost use Rattle.wl_window.specs.Reordering.{IsStore};
+
+    ghost view = { λ r. record { room = r.room; window = record { start = r.start; slots = r.slots.items } } };
+
+    ghost invariant = { λ r. IsStore (record { room = r.room; window = record { start = r.start; slots = r.slots.items } }) × (r.room ≤ deque_capacity r.slots) };
+}
+
+/// Where a slot of this number is, or its place.
+fn place_of<T>(slots: &VecDeque<Slot<T>>, number: u32) -> Result<usize, usize>
+    requires { (high : ℕ) × IsRising 0 high slots.now.items }
+    ensures { MatchResult result (λ _. holds number slots.now.items ≡ true) (IsGap number slots.now.items) }
+{
+    slots.binary_search_by_key(&number, |slot| slot.number)
+}
+
+/// Puts a slot in at a place, where there is room.
+fn insert<T: Drop>(slots: &mut VecDeque<Slot<T>>, place: usize, slot: Slot<T>)
+    requires within { place ≤ deque_len slots.old }
+    requires room { deque_len slots.old < deque_capacity slots.old }
+    ensures slots { slots.new.items ≡ inserted slots.old.items place slot }
+    ensures kept { deque_capacity slots.old ≤ deque_capacity slots.new }
+{
+    match slots.insert(place, slot) {
+        Ok(()) => (),
+        Err(_) => unreachable!(),
+    }
+}
+
+/// Takes the first slot, unless its number is past the start.
+fn take_due<T>(slots: &mut VecDeque<Slot<T>>, start: u32) -> Option<Slot<T>>
+    ensures taken { Takes start slots.old.items result slots.new.items }
+    ensures kept { deque_capacity slots.new ≡ deque_capacity slots.old }
+{
+    match slots.front() {
+        Some(slot) if slot.number <= start => slots.pop_front(),
+        _ => None,
+    }
+}
+
+/// Moves the window to `to`: what is below goes up, and then the run from there on. The new start.
+///
+/// Both are one pass over slots that rise: one below the start goes up as it is, one at the start moves
+/// it on, and one past it is where a number is missing.
+fn advance<T>(slots: &mut VecDeque<Slot<T>>, to: u32, up: &mut Ups<T>) -> u32
+    requires rising { IsRising 0 (2 ^ 32 - 1) slots.old.items }
+    requires spare { length slots.old.items ≤ up.old.spare }
+    ensures window { let moved = advanced to slots.old.items in (result ≡ moved.window.start) × (slots.new.items ≡ moved.window.slots) }
+    ensures up { let moved = advanced to slots.old.items in up.new ≡ received up.old moved.up }
+    ensures kept { deque_capacity slots.new ≡ deque_capacity slots.old }
+{
+    let mut start = to;
+    'due: while let Some(slot) = take_due(slots, start) {
+        start = start.max(slot.number + 1);
+        up.push(slot.item);
+    }
+    start
+}
+
+impl<T> Reorder<T> {
+    ghost use Rattle.wl_window.specs.Queue.{Queue};
+    ghost use Rattle.wl_window.specs.Reordering.{IsStore, arrived, requested, stored_numbers, answer, window_after, queue_after, window_requested, queue_requested};
+
+    /// A window that starts at 0 with nothing stored, whose size may be up to `slots`. `Memory` where
+    /// there was none for so many.
+    pub fn new(alloc: Global, slots: u16) -> Result<Reorder<T>, Memory>
+        requires { (1 ≤ slots) × (slots ≤ 1024) }
+        ensures { IfOk result (λ r. r ≡ record { room = slots; window = record { start = 0; slots = [] } }) }
+    {
+        let empty = VecDeque::with_capacity(alloc, usize::from(slots))?;
+        Ok(Reorder {
+            start: 0,
+            room: slots,
+            slots: empty,
+        })
+    }
+
+    /// Takes the item of a frame with these 12 bits, while the window has this size. What can go up
+    /// then goes to the end of `up`, in order.
+    ///
+    /// OldNumber exactly where the number is 2,048 or more ahead of the start, Double exactly where it
+    /// isn't and is stored already; both hand the item back and change nothing. It takes no memory.
+    pub fn arrive(
+        &mut self,
+        number: u16,
+        size: u16,
+        item: T,
+        up: &mut Ups<T>,
+    ) -> Result<(), ArriveRefusal<T>>
+    where
+        T: Drop,
+        requires size { (1 ≤ size) × (size ≤ self.old.room) }
+        requires start { self.old.window.start < 2 ^ 32 - 4096 }
+        requires spare { length self.old.window.slots < up.old.spare }
+        ensures answer { result ≡ answer item (arrived self.old.window number size item) }
+        ensures window { self.new.window ≡ window_after self.old.window (arrived self.old.window number size item) }
+        ensures up { up.new ≡ queue_after up.old (arrived self.old.window number size item) }
+        ensures room { self.new.room ≡ self.old.room }
+        ensures sound { IsStore self.new }
+    {
+        let ahead = distance_to(self.start, number);
+        if ahead >= 2048 {
+            return Err(ArriveRefusal::OldNumber(item));
+        }
+        let number = self.start + u32::from(ahead);
+        let Err(place) = place_of(&self.slots, number) else {
+            return Err(ArriveRefusal::Double(item));
+        };
+        insert(&mut self.slots, place, Slot { number, item });
+        let to = self.start.max((number + 1).saturating_sub(u32::from(size)));
+        self.start = advance(&mut self.slots, to, up);
+        Ok(())
+    }
+
+    /// Moves the window to these 12 bits. What is below goes up, and then the run from there on.
+    ///
+    /// False exactly where they are the start's own or 2,048 and more ahead of it; then nothing
+    /// changes. It takes no memory.
+    pub fn request(&mut self, start: u16, up: &mut Ups<T>) -> bool
+        requires start { self.old.window.start < 2 ^ 32 - 4096 }
+        requires spare { length self.old.window.slots < up.old.spare }
+        ensures answer { result ≡ is_some (requested self.old.window start) }
+        ensures window { self.new.window ≡ window_requested self.old.window (requested self.old.window start) }
+        ensures up { up.new ≡ queue_requested up.old (requested self.old.window start) }
+        ensures room { self.new.room ≡ self.old.room }
+        ensures sound { IsStore self.new }
+    {
+        let ahead = distance_to(self.start, start);
+        if ahead == 0 || ahead >= 2048 {
+            return false;
+        }
+        self.start = advance(&mut self.slots, self.start + u32::from(ahead), up);
+        true
+    }
+
+    /// The stored numbers, in the window's order, in place of what `out` had.
+    pub fn stored(&self, out: &mut Numbers12)
+        ensures { out.new ≡ stored_numbers self.now.window.slots }
+    {
+        let mut numbers = Numbers12::new();
+        'slots: for slot in self.slots.iter() {
+            numbers.push((slot.number % 4096) as u16);
+        }
+        *out = numbers;
+    }
+
+    /// The first number that was neither passed up nor given up, in full.
+    pub fn start(&self) -> u32
+        ensures value { result ≡ self.now.window.start }
+        ensures sound { IsStore self.now }
+    {
+        self.start
+    }
+
+    /// How many items are stored: fewer than the greatest size.
+    pub fn held(&self) -> u16
+        ensures value { result ≡ length self.now.window.slots }
+        ensures limit { result < self.now.room }
+        ensures sound { IsStore self.now }
+    {
+        self.slots.len() as u16
+    }
+}

@@ -25,6 +25,7 @@ use Rattle.wl_history.specs.declared.outcome.Outcome.{Outcome}
 use Rattle.wl_history.specs.declared.outcome.Outcome.TheVariants as outcomes
 use Rattle.wl_history.specs.declared.outcome.KeptWhy.TheVariants.{NotSetUp}
 use Rattle.wl_history.specs.declared.start.EndStart.{EndStart}
+use Rattle.wl_history.specs.Plain.{IsPlain}
 use Rattle.wl_history.specs.Words.{Receiving, is_new}
 use Rattle.wl_history.specs.Answers.{is_empty, granted_outcome, reserve_answer, book_answer, put_answer, arrived_answer, receive_answer, released_positions}
 use Rattle.wl_history.specs.Hearing.{Closed, Judged, Answered, ToOpen, with_key, judged_protected, judged_kind, judged, is_of, booking_of, same_octets, is_own_way}
@@ -78,14 +79,9 @@ put_cases P lane n false aired false none kept put = kept
 
 -- ---- hearing
 
--- an answer that stores nothing
-abbrev pub StoresNone : Outcome → Type 0
-StoresNone (outcomes.Stored lane number n up) = ⊥
-StoresNone other = Unit {0}
-
 -- what is judged before the opening stores nothing
 abbrev JudgedPlain : Judged → Type 0
-JudgedPlain (Answered outcome) = StoresNone outcome
+JudgedPlain (Answered outcome) = IsPlain outcome
 JudgedPlain (ToOpen closed) = Unit {0}
 
 plain_key : (lane : Lane) (f : FrameValue) (p : Protection) (k : Option ℕ) → JudgedPlain (with_key lane f p k)
@@ -102,7 +98,7 @@ plain_kind newest f Action = plain_protected newest lanes.Management f f.protect
 plain_kind newest f AssocAsk = tt
 plain_kind newest f AssocReply = tt
 
-plain_by : (a b c d : Bool) (w x y z : Outcome) (last : Judged) → StoresNone w → StoresNone x → StoresNone y → StoresNone z → JudgedPlain last
+plain_by : (a b c d : Bool) (w x y z : Outcome) (last : Judged) → IsPlain w → IsPlain x → IsPlain y → IsPlain z → JudgedPlain last
     → JudgedPlain (if a then Answered w else if b then Answered x else if c then Answered y else if d then Answered z else last)
 plain_by true b c d w x y z last p q r s t = p
 plain_by false true c d w x y z last p q r s t = q
@@ -116,7 +112,7 @@ judged_plain start e newest link (Ok f) =
     outcomes.LinkDown (outcomes.BadFrame WrongAddress 4) (outcomes.BadFrame WrongAddress 10) (outcomes.BadFrame WrongAddress 1) (judged_kind newest f f.header.kind) tt tt tt tt (plain_kind newest f f.header.kind)
 judged_plain start e newest link (Err refusal) = tt
 
-pub plain_answer : (start : EndStart) (e : EndId) (newest link : ℕ) (reading : Result FrameValue Refusal) (outcome : Outcome) → judged start e newest link reading ≡ Answered outcome → StoresNone outcome
+pub plain_answer : (start : EndStart) (e : EndId) (newest link : ℕ) (reading : Result FrameValue Refusal) (outcome : Outcome) → judged start e newest link reading ≡ Answered outcome → IsPlain outcome
 plain_answer start e newest link reading outcome is = subst JudgedPlain is (judged_plain start e newest link reading)
 
 -- what is found by its text is one of the list, and has it

@@ -7,3 +7,5 @@ pub mod Receiving
 pub mod Cases
 pub mod Sound
 pub mod Safety
+pub mod Once
+pub mod Opening

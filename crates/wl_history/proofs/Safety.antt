@@ -32,12 +32,13 @@ use Rattle.wl_history.specs.Ends.{start_of, is_set_up, link_address}
 use Rattle.wl_history.specs.Hands.{hand_of}
 use Rattle.wl_history.specs.Words.{queued, body_at, hands, numbers, booked, sending, Airing, receiving}
 use Rattle.wl_history.specs.Hearing.{octets_of, Closed, Judged, Answered, ToOpen, with_key, judged_protected, judged_kind, judged, booking_of, is_of, sealed_under, opened_under, text_of, same_octets, is_own_way}
+use Rattle.wl_history.specs.Plain.{IsPlain}
 use Rattle.wl_history.specs.Legal.{IsAnswer, Legal, HeardIf, judged_answer, opened_answer, put_of, newest, frame_named}
 use Rattle.wl_history.specs.Safe.{InOrder, OrderKept, IsSame, NumbersKept, PutAllowed, StepAllowed, LinksKept, FrameOpened, HeardOpened, StepOpened, KeysKept, Safe}
 use Rattle.wl_history.proofs.Sender.{NumberLaws, WindowLaws}
 use Rattle.wl_history.proofs.Growing.{AiredWell, position_queued}
 use Rattle.wl_history.proofs.Receiving.{every, Rising, Trans}
-use Rattle.wl_history.proofs.Cases.{put_cases, plain_answer, StoresNone, found_is_of, found_there, receive_cases}
+use Rattle.wl_history.proofs.Cases.{put_cases, plain_answer, found_is_of, found_there, receive_cases}
 use Rattle.wl_history.proofs.Sound.{Sound, all_sound}
 
 -- what the order of bookings says of two
@@ -195,7 +196,7 @@ module _ (text : Sealing) (start : EndStart) (before : List Step) (e : EndId) (l
   OpenedAs a (outcomes.Stored lane number n up) = FrameOpened text start e before link lane n a
   OpenedAs a other = Unit {0}
 
-  opened_none : (a : Option Airing) (outcome : Outcome) → StoresNone outcome → OpenedAs a outcome
+  opened_none : (a : Option Airing) (outcome : Outcome) → IsPlain outcome → OpenedAs a outcome
   opened_none a (outcomes.Stored lane number n up) none = absurd none
   opened_none a other none = tt
 

@@ -30,6 +30,7 @@ use Rattle.wl_history.specs.Hands.{hand_of, reserves, bit}
 use Rattle.wl_history.specs.Words.{queued, queue_after, body_at, hands, hands_after, hands_reserved, hands_booked, hands_put, numbers, numbers_after, numbers_booked, booked, booked_after, booked_with, acks, nth_of, sending, sending_after, sending_reserved, sending_numbered, sending_acked, Airing, airings, airings_after, airings_put, Receiving, receiving, receiving_after, received, taken}
 use Rattle.wl_history.specs.Answers.{reserve_answer, book_answer}
 use Rattle.wl_history.specs.Hearing.{Closed, Judged, Answered, ToOpen, judged}
+use Rattle.wl_history.specs.Plain.{IsPlain}
 use Rattle.wl_history.specs.Legal.{IsAnswer, Fits, IsStep, Legal, HeardIf, judged_answer, opened_answer, put_of, newest, frame_named}
 use Rattle.wl_history.specs.Sender.{IsSender, Regranted, has_position}
 use Rattle.wl_history.proofs.Lanes.{same_list, no_member}
@@ -38,7 +39,7 @@ use Rattle.wl_history.proofs.Sender.{NumberLaws, WindowLaws, lane_within, still_
 use Rattle.wl_history.proofs.Booking.{booking}
 use Rattle.wl_history.proofs.Growing.{IsBooking, position_queued, booking_queued, booking_booked, AiredWell, Aired, aired_more}
 use Rattle.wl_history.proofs.Receiving.{Trans, Got, got_taken, got_still}
-use Rattle.wl_history.proofs.Cases.{at_end, reserve_cases, book_cases, put_cases, plain_answer, StoresNone, found_there, receive_cases}
+use Rattle.wl_history.proofs.Cases.{at_end, reserve_cases, book_cases, put_cases, plain_answer, found_there, receive_cases}
 
 -- the words of one end
 abbrev pub SideAt : Start → EndId → List Step → Type 0
@@ -360,7 +361,7 @@ module _ (laws : NumberLaws) (windows : WindowLaws) (trans : Trans) (text : Seal
   StoredBooked e (outcomes.Stored lane number n up) = Contains (list_of (booked (peer_of e) before) lane) n
   StoredBooked e other = Unit {0}
 
-  none_stored : (e : EndId) (outcome : Outcome) → StoresNone outcome → StoredBooked e outcome
+  none_stored : (e : EndId) (outcome : Outcome) → IsPlain outcome → StoredBooked e outcome
   none_stored e (outcomes.Stored lane number n up) none = absurd none
   none_stored e other none = tt
 

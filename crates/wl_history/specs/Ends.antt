@@ -1,5 +1,5 @@
 -- What an end starts with: addresses, links, sizes.
-use Rattle.std.specs.Prelude.{ℕ, ◌==◌, ◌&&◌, if◌then◌else◌, Bool, is_some, List, [], ◌∷◌, Option, Some, None}
+use Rattle.std.specs.Prelude.{ℕ, ◌==◌, ◌&&◌, if◌then◌else◌, Bool, is_some, List, [], ◌∷◌, Option, Some, None, ◌≡◌, ◌<◌, ◌≤◌, ◌^◌, length}
 use Rattle.wl_elem.specs.declared.lane.EndId.{EndId}
 use Rattle.wl_elem.specs.declared.lane.EndId.TheVariants.{Ap, Sta}
 use Rattle.wl_elem.specs.declared.lane.Lane.TheVariants.{Management}
@@ -48,3 +48,18 @@ send_size start place = if place == lane_index Management then 16 else start.win
 -- how many numbers a recipient's window has, by the place of the lane
 abbrev pub receive_size : EndStart → ℕ → ℕ
 receive_size start place = if place == lane_index Management then 1 else start.window
+
+-- what both ends share, and what each is
+pub record IsStart (start : Start) : Type 0 where
+  pub ap_end : start.ap.end ≡ Ap
+  pub sta_end : start.sta.end ≡ Sta
+  pub ap_same : start.sta.ap ≡ start.ap.ap
+  pub sta_same : start.sta.sta ≡ start.ap.sta
+  pub key_same : start.sta.key ≡ start.ap.key
+  pub links_same : start.sta.links ≡ start.ap.links
+  pub ap_six : length start.ap.ap ≡ 6
+  pub sta_six : length start.ap.sta ≡ 6
+  pub some_window : (e : EndId) → 1 ≤ (start_of start e).window
+  pub window_limit : (e : EndId) → (start_of start e).window ≤ 256
+  pub some_pn : (e : EndId) → 1 ≤ (start_of start e).first_pn
+  pub pn_limit : (e : EndId) → (start_of start e).first_pn < 2 ^ 48

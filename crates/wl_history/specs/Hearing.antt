@@ -1,13 +1,13 @@
 -- Frames on the air: the octets that a booking is aired in, and what an end makes of octets that it
 -- hears (IEEE Std 802.11, 10.25.6 and 12.5.2; IEEE Std 802.11be, 35.3).
-use Rattle.std.specs.Prelude.{ℕ, ◌%◌, ◌==◌, ◌&&◌, if◌then◌else◌, not, Bool, true, false, List, [], ◌∷◌, Option, Some, None, Result, Ok, Err}
+use Rattle.std.specs.Prelude.{ℕ, ◌%◌, ◌==◌, ◌&&◌, if◌then◌else◌, not, Bool, true, false, List, [], ◌∷◌, Option, Some, None, Result, Ok, Err, ◌<◌, ◌^◌}
 use Rattle.wl_elem.specs.declared.fault.Refusal.{Refusal}
 use Rattle.wl_elem.specs.declared.why.Why.TheVariants.{WrongAddress}
 use Rattle.wl_elem.specs.declared.lane.EndId.{EndId}
 use Rattle.wl_elem.specs.declared.lane.EndId.TheVariants.{Ap, Sta}
 use Rattle.wl_elem.specs.declared.lane.Lane.{Lane}
 use Rattle.wl_elem.specs.declared.lane.Lane.TheVariants as lanes
-use Rattle.wl_elem.specs.Lanes.{peer_of}
+use Rattle.wl_elem.specs.Lanes.{peer_of, IsLane}
 use Rattle.wl_frame.specs.declared.header.Kind.{Kind}
 use Rattle.wl_frame.specs.declared.header.Kind.TheVariants.{Qos, Action, AssocAsk, AssocReply}
 use Rattle.wl_frame.specs.declared.header.Header.{Header}
@@ -90,6 +90,12 @@ pub record Closed : Type 0 where
   pub key : ℕ
   pub pn : ℕ
   pub payload : List ℕ
+
+-- its numbers are in their ranges
+pub record IsClosed (c : Closed) : Type 0 where
+  pub of_lane : IsLane c.lane
+  pub number_fits : c.number < 4096
+  pub pn_fits : c.pn < 2 ^ 48
 
 -- what the tests before the opening leave
 pub data Judged : Type 0 where

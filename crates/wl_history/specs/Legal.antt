@@ -29,10 +29,20 @@ use Rattle.wl_history.specs.Words.{queued, body_at, hands, numbers, booked, acks
 use Rattle.wl_history.specs.Answers.{reserve_answer, book_answer, put_answer, receive_answer, ack_out_answer, ack_in_answer}
 use Rattle.wl_history.specs.Hearing.{octets_of, Closed, Judged, Answered, ToOpen, judged, opened_under, sealed_under, text_of, booking_of}
 
+-- the end that acts
+abbrev pub actor : Command → EndId
+actor (commands.Queue end tid body) = end
+actor (commands.Reserve end lane) = end
+actor (commands.Book end) = end
+actor (commands.Put end link) = end
+actor (commands.Deliver end link nth) = end
+actor (commands.AckOut end lane) = end
+actor (commands.AckIn end nth) = end
+
 -- a put of what the hand holds
 abbrev pub put_of : EndStart → EndId → List Step → ℕ → Hand → Outcome
 put_of start e before link (hand.Booking lane n) =
-    put_answer lane n (is_done (sending e (lane_index lane) before) n.pos) (was_aired lane n.pos (airings e before)) (is_set_up start link)
+    put_answer lane n (is_done (sending e (lane_index lane) before) n.pos) (was_aired (lane_index lane) n.pos (airings e before)) (is_set_up start link)
 put_of start e before link other = outcomes.Nothing
 
 -- a payload, where its sender has the booking or not
@@ -79,7 +89,7 @@ IsAnswer text start before thread (commands.AckIn end nth) outcome = outcome ≡
 -- No booking of the sender has this key, nonce, AAD and body.
 abbrev pub IsUnbooked : EndStart → EndId → List Step → Opened → Type 0
 IsUnbooked start sender before opened =
-    (lane : Lane) (n : Numbers) → Contains (list_of (booked sender before) lane) n → sealed_under start sender lane n (body_at (queued sender (lane_index lane) before) n.pos) ≢ opened
+    (lane : Lane) (n : Numbers) → IsLane lane → Contains (list_of (booked sender before) lane) n → sealed_under start sender lane n (body_at (queued sender (lane_index lane) before) n.pos) ≢ opened
 
 -- a payload opens to what its sender never booked
 abbrev pub ForgedAs : Sealing → EndStart → EndId → List Step → Judged → Opened → Type 0

@@ -2,8 +2,11 @@ pub mod Ends
 pub mod Hands
 pub mod Words
 pub mod Sender
+pub mod Plain
 pub mod EndState
 pub mod Answers
 pub mod Hearing
 pub mod Legal
 pub mod Safe
+pub mod Stands
+pub mod Runs

@@ -5,7 +5,7 @@ use Rattle.std.specs.Prelude.{ℕ, zero, suc, ◌+◌, ◌-◌, ◌==◌, ◌&&�
 use Rattle.wl_elem.specs.declared.lane.EndId.{EndId}
 use Rattle.wl_elem.specs.declared.lane.Lane.{Lane}
 use Rattle.wl_elem.specs.declared.lane.Lane.TheVariants as lanes
-use Rattle.wl_elem.specs.Lanes.{lane_index, at_place, same_lane, same_end, peer_of}
+use Rattle.wl_elem.specs.Lanes.{lane_index, at_place, same_end, peer_of}
 use Rattle.wl_number.specs.declared.numbers.Numbers.{Numbers}
 use Rattle.wl_number.specs.NumberObject.{NumberObject, opened, entered}
 use Rattle.wl_number.specs.OrderRule.{with_booking}
@@ -174,10 +174,10 @@ abbrev pub airings_on : ℕ → List Airing → List Airing
 airings_on link [] = []
 airings_on link (airing ∷ airings) = if airing.link == link then airing ∷ airings_on link airings else airings_on link airings
 
--- whether the booking at this position of the lane was aired, on any link
-abbrev pub was_aired : Lane → ℕ → List Airing → Bool
-was_aired lane pos [] = false
-was_aired lane pos (airing ∷ airings) = if same_lane airing.lane lane && airing.numbers.pos == pos then true else was_aired lane pos airings
+-- whether the booking at this position of the lane at this place was aired, on any link
+abbrev pub was_aired : ℕ → ℕ → List Airing → Bool
+was_aired l pos [] = false
+was_aired l pos (airing ∷ airings) = if at_place airing.lane l && airing.numbers.pos == pos then true else was_aired l pos airings
 
 -- Received: what is stored in the window of a lane, and what went up and was released, the latest
 -- first.

@@ -1,9 +1,15 @@
 //! Laws of the words, each the contract of a function that does nothing.
 
-ghost use Rattle.std.specs.Prelude.{◌≡◌, ◌+◌, ◌≤◌, ◌==◌, ℕ, false, if◌then◌else◌, List, Option, length};
+ghost use Rattle.std.specs.Prelude.{◌≡◌, ◌+◌, ◌≤◌, ◌==◌, ℕ, false, if◌then◌else◌, List, Option, Result, length};
 ghost use Rattle.wl_elem.specs.declared.lane.Lane.{Lane};
 ghost use Rattle.wl_elem.specs.Lanes.{at_place, IsLane};
+ghost use Rattle.wl_elem.specs.declared.fault.Refusal.{Refusal};
+ghost use Rattle.wl_elem.specs.declared.lane.EndId.{EndId};
+ghost use Rattle.wl_frame.specs.Frame.{FrameValue};
+ghost use Rattle.wl_frame.specs.Refusals.{ReadAs};
 ghost use Rattle.wl_frame.specs.Sealing.{Sealing};
+ghost use Rattle.wl_history.specs.declared.start.EndStart.{EndStart};
+ghost use Rattle.wl_history.specs.Hearing.{Answered, Closed, IsClosed, ToOpen, judged};
 ghost use Rattle.wl_number.specs.declared.numbers.Numbers.{Numbers};
 ghost use Rattle.wl_number.specs.NumberObject.{NumberObject, drawn, entered};
 ghost use Rattle.wl_number.specs.OrderRule.{with_booking};
@@ -16,9 +22,13 @@ ghost use Rattle.wl_history.specs.declared.step.Step.{Step};
 ghost use Rattle.wl_history.specs.Hands.{hand_of, set_hand, reserves, bit};
 ghost use Rattle.wl_history.specs.Words.{sending_acked};
 ghost use Rattle.wl_history.specs.Sender.{IsSender, Regranted};
+ghost use Rattle.wl_history.specs.declared.outcome.Outcome.{Outcome};
+ghost use Rattle.wl_history.specs.Plain.{IsPlain};
 ghost use Rattle.wl_history.specs.Legal.{Legal};
+ghost use Rattle.wl_history.specs.Runs.{asked};
 ghost use Rattle.wl_history.specs.Safe.{Safe};
 
+use wl_frame::read_once;
 use wl_number::{
     a_draw_is_next, booked_once, highest_breaks_none, in_pair_order, pairs_in_order, stands_exactly,
 };
@@ -84,3 +94,23 @@ pub fn every_history_is_safe()
     booked_after_booking();
     booked_after_ack()
 }
+
+/// What was asked makes one legal history: two that were asked the same commands by the same threads
+/// are the same.
+pub fn one_history()
+    ensures { (text : Sealing) (start : Start) (steps other : List Step) → Legal text start steps → Legal text start other → asked steps ≡ asked other → steps ≡ other }
+{
+    read_once()
+}
+
+/// What is to be opened is of one of the nine lanes, and its numbers are in their ranges.
+pub fn what_opens_fits()
+    ensures { (start : EndStart) (e : EndId) (newest link : ℕ) (octets : List ℕ) (reading : Result FrameValue Refusal) (c : Closed)
+        → ReadAs octets reading → judged start e newest link reading ≡ ToOpen c → IsClosed c }
+{}
+
+/// What is answered before the opening stores nothing and acknowledges nothing.
+pub fn what_is_judged_is_plain()
+    ensures { (start : EndStart) (e : EndId) (newest link : ℕ) (reading : Result FrameValue Refusal) (outcome : Outcome)
+        → judged start e newest link reading ≡ Answered outcome → IsPlain outcome }
+{}

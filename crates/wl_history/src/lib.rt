@@ -18,10 +18,10 @@ pub use arrival::Arrival;
 pub use command::Command;
 pub use hand::Hand;
 pub use laws::{
-    ack_keeps, every_history_is_safe, sender_books, sender_gives_back, sender_reserves,
-    sender_stays,
+    ack_keeps, every_history_is_safe, one_history, sender_books, sender_gives_back,
+    sender_reserves, sender_stays, what_is_judged_is_plain, what_opens_fits,
 };
-pub use lists::{Positions, SequenceNumbers};
+pub use lists::{Positions, PositionsRoom, SequenceNumbers};
 pub use opened::Opened;
 pub use outcome::{KeptWhy, Outcome};
 pub use script::{Item, Plain, Script};

@@ -1,6 +1,6 @@
 //! Lists of numbers in answers.
 
-ghost use Rattle.std.specs.Prelude.{◌≡◌, ◌++◌, ◌∷◌, [], OnOk, OnErr, IfOk};
+ghost use Rattle.std.specs.Prelude.{◌≡◌, ◌++◌, ◌∷◌, ◌≤◌, [], length, OnOk, OnErr, IfOk};
 
 use std::alloc::Global;
 use std::marker::Model;
@@ -30,6 +30,13 @@ impl Positions {
         }
     }
 
+    /// These positions. It takes no memory.
+    pub fn from_vec(list: Vec<u32>) -> Positions
+        ensures { result ≡ list.items }
+    {
+        Positions { list }
+    }
+
     /// Adds a position at the end. After `Memory` the list is as it was.
     pub fn push(&mut self, pos: u32) -> Result<(), Memory>
         ensures ok { OnOk result (self.new ≡ self.old ++ pos ∷ []) }
@@ -39,11 +46,50 @@ impl Positions {
         Ok(())
     }
 
+    /// The same positions again, in room that was taken before. It takes no memory.
+    pub fn copy_into(&self, room: PositionsRoom) -> Positions
+        requires { length self.now ≤ room }
+        ensures { result ≡ self.now }
+    {
+        let mut list = room.list;
+        match list.extend_from_slice(self.list.as_slice()) {
+            Ok(()) => Positions { list },
+            Err(_) => unreachable!(),
+        }
+    }
+
     /// The positions as a slice.
     pub fn as_slice(&self) -> &[u32]
         ensures { result.now ≡ self.now }
     {
         self.list.as_slice()
+    }
+}
+
+/// Room for positions: so many fit. It is taken before something changes that can't be undone.
+#[derive(Drop)]
+pub struct PositionsRoom {
+    list: Vec<u32>,
+}
+
+impl Model for PositionsRoom {
+    ghost use Rattle.std.specs.Prelude.{◌≡◌, ℕ, []};
+    ghost use Rattle.std.specs.Vec.{vec_capacity};
+
+    ghost Value = { ℕ };
+
+    ghost view = { λ r. vec_capacity r.list };
+
+    ghost invariant = { λ r. r.list.items ≡ [] };
+}
+
+impl PositionsRoom {
+    /// Room for this many positions.
+    pub fn new(alloc: Global, count: u16) -> Result<PositionsRoom, Memory>
+        ensures { IfOk result (λ r. count ≤ r) }
+    {
+        let list = Vec::with_capacity(alloc, usize::from(count))?;
+        Ok(PositionsRoom { list })
     }
 }
 

@@ -1,6 +1,9 @@
 //! Answers.
 
-use crate::lists::{Positions, SequenceNumbers};
+ghost use Rattle.std.specs.Prelude.{◌≡◌, ◌≤◌, length};
+ghost use Rattle.wl_history.specs.Plain.{IsPlain, FitsIn};
+
+use crate::lists::{Positions, PositionsRoom, SequenceNumbers};
 use wl_elem::{Lane, Why};
 use wl_number::Numbers;
 
@@ -109,4 +112,78 @@ pub enum Outcome {
         /// How many positions are done since.
         count: u32,
     },
+}
+
+impl Outcome {
+    /// The same answer again, of one that carries no list. It takes no memory.
+    pub fn again(&self) -> Outcome
+        requires { IsPlain self.now }
+        ensures { result ≡ self.now }
+    {
+        match self {
+            Outcome::Queued { pos } => Outcome::Queued { pos: *pos },
+            Outcome::Reserved => Outcome::Reserved,
+            Outcome::HandFull => Outcome::HandFull,
+            Outcome::NothingQueued => Outcome::NothingQueued,
+            Outcome::WindowFull => Outcome::WindowFull,
+            Outcome::Booked { lane, numbers } => Outcome::Booked {
+                lane: *lane,
+                numbers: *numbers,
+            },
+            Outcome::NoReserve => Outcome::NoReserve,
+            Outcome::Spent { lane } => Outcome::Spent { lane: *lane },
+            Outcome::Put {
+                lane,
+                numbers,
+                retry,
+            } => Outcome::Put {
+                lane: *lane,
+                numbers: *numbers,
+                retry: *retry,
+            },
+            Outcome::Kept { lane, pos, why } => Outcome::Kept {
+                lane: *lane,
+                pos: *pos,
+                why: *why,
+            },
+            Outcome::Nothing => Outcome::Nothing,
+            Outcome::NotThere => Outcome::NotThere,
+            Outcome::BadFrame { why, place } => Outcome::BadFrame {
+                why: *why,
+                place: *place,
+            },
+            Outcome::LinkDown => Outcome::LinkDown,
+            Outcome::Ignored => Outcome::Ignored,
+            Outcome::NoKey => Outcome::NoKey,
+            Outcome::NotOpened => Outcome::NotOpened,
+            Outcome::Replay => Outcome::Replay,
+            Outcome::OldNumber => Outcome::OldNumber,
+            Outcome::Double => Outcome::Double,
+            Outcome::Stored { .. } => unreachable!(),
+            Outcome::Acked { .. } => unreachable!(),
+            Outcome::OldAck => Outcome::OldAck,
+            Outcome::Done { count } => Outcome::Done { count: *count },
+        }
+    }
+
+    /// The same answer again, in room that was taken before. It takes no memory.
+    pub fn again_in(&self, room: PositionsRoom) -> Outcome
+        requires { FitsIn room self.now }
+        ensures { result ≡ self.now }
+    {
+        match self {
+            Outcome::Stored {
+                lane,
+                number,
+                numbers,
+                up,
+            } => Outcome::Stored {
+                lane: *lane,
+                number: *number,
+                numbers: *numbers,
+                up: up.copy_into(room),
+            },
+            other => other.again(),
+        }
+    }
 }

@@ -37,6 +37,9 @@ impl Model for Steps {
 }
 
 impl Steps {
+    ghost use Rattle.std.specs.Prelude.{List};
+    ghost use Rattle.wl_history.specs.declared.step.Step.{Step};
+
     /// No steps. It takes no memory.
     pub fn new(alloc: Global) -> Steps
         ensures { result ≡ [] }
@@ -53,6 +56,32 @@ impl Steps {
     {
         self.list.push(step)?;
         Ok(())
+    }
+
+    /// Gives the latest step another answer. It takes no memory.
+    pub fn settle(&mut self, outcome: Outcome)
+        requires { (step : Step) × (before : List Step) × (self.old ≡ step ∷ before) }
+        ensures { (step : Step) (before : List Step) → self.old ≡ step ∷ before → self.new ≡ record { thread = step.thread; command = step.command; outcome = outcome } ∷ before }
+    {
+        let Some(step) = self.list.pop() else {
+            return;
+        };
+        let step = Step {
+            thread: step.thread,
+            command: step.command,
+            outcome,
+        };
+        match self.list.push(step) {
+            Ok(()) => (),
+            Err(_) => unreachable!(),
+        }
+    }
+
+    /// Takes the latest step back. It takes no memory.
+    pub fn take_back(&mut self)
+        ensures { (step : Step) (before : List Step) → self.old ≡ step ∷ before → self.new ≡ before }
+    {
+        self.list.pop();
     }
 
     /// The steps, the earliest first.

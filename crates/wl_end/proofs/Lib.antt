@@ -1,0 +1,11 @@
+pub mod Places
+pub mod Counting
+pub mod Laws
+pub mod Keeping
+pub mod Booking
+pub mod Writing
+pub mod Octets
+pub mod Finding
+pub mod Releasing
+pub mod Rising
+pub mod Listening

@@ -1,0 +1,27 @@
+-- What comes of a body that a lane's window takes or refuses.
+use Rattle.std.specs.Prelude.{List, ◌++◌, Option, slice_set}
+use Rattle.wl_elem.specs.declared.lane.Lane.{Lane}
+use Rattle.wl_elem.specs.Lanes.{lane_index}
+use Rattle.wl_replay.specs.declared.replay.Pair.{Pair}
+use Rattle.wl_replay.specs.Replay.{last_of}
+use Rattle.wl_window.specs.Reordering.{Arrived, Old, Doubled, Stored}
+use Rattle.wl_history.specs.declared.arrival.Arrival.{Arrival}
+use Rattle.wl_history.specs.EndState.{LaneState, let_up}
+use Rattle.wl_end.specs.declared.hearing.Heard.{Heard}
+use Rattle.wl_end.specs.declared.hearing.Heard.TheVariants as heard
+
+-- what is told of it, where this was the lane's last pair
+abbrev pub heard_of : Option Pair → Arrived Arrival → Heard
+heard_of last Old = heard.Old
+heard_of last Doubled = heard.Doubled
+heard_of last (Stored moved) = heard.Stored (let_up last moved.up).positions
+
+-- what it leaves of the lane
+abbrev pub lane_after : Option Pair → Arrived Arrival → LaneState → LaneState
+lane_after last (Stored moved) lane = record lane { window = moved.window; released = lane.released ++ (let_up last moved.up).positions }
+lane_after last other lane = lane
+
+-- and of the last pairs
+abbrev pub pairs_after : Lane → Arrived Arrival → List (Option Pair) → List (Option Pair)
+pairs_after lane (Stored moved) pairs = slice_set pairs (lane_index lane) (let_up (last_of pairs lane) moved.up).last
+pairs_after lane other pairs = pairs

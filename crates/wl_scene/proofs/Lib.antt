@@ -1,0 +1,10 @@
+pub mod Ordered
+pub mod Written
+pub mod LineText
+pub mod Among
+pub mod Scripts
+pub mod Sounds
+pub mod Lanes
+pub mod ReportText
+pub mod Readings
+pub mod Maximal

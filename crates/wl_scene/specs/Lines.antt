@@ -1,0 +1,137 @@
+-- The text of a journal: a line for each step, the earliest first.
+use Rattle.std.specs.Prelude.{ℕ, List, [], ◌∷◌, ◌++◌, length, Option, Some, None, codes}
+use Rattle.serde_json.specs.Data.{Data, null, boolean, string, array}
+use Rattle.serde_json.specs.Written.{compact_text}
+use Rattle.wl_elem.specs.declared.lane.EndId.{EndId}
+use Rattle.wl_elem.specs.declared.lane.EndId.TheVariants.{Ap, Sta}
+use Rattle.wl_elem.specs.declared.lane.Lane.{Lane}
+use Rattle.wl_elem.specs.declared.lane.Lane.TheVariants.{Tid, Management}
+use Rattle.wl_elem.specs.Why.{why_name}
+use Rattle.wl_number.specs.declared.numbers.Numbers.{Numbers}
+use Rattle.wl_history.specs.declared.command.Command.{Command}
+use Rattle.wl_history.specs.declared.command.Command.TheVariants as commands
+use Rattle.wl_history.specs.declared.outcome.Outcome.{Outcome}
+use Rattle.wl_history.specs.declared.outcome.Outcome.TheVariants as outcomes
+use Rattle.wl_history.specs.declared.outcome.KeptWhy.{KeptWhy}
+use Rattle.wl_history.specs.declared.outcome.KeptWhy.TheVariants.{NotSetUp}
+use Rattle.wl_history.specs.declared.step.Step.{Step}
+use Rattle.wl_scene.specs.Objects.{Named, object_of, whole, wholes}
+
+abbrev pub end_name : EndId → List ℕ
+end_name Ap = codes "ap"
+end_name Sta = codes "sta"
+
+-- a TID by its number, management by its letter
+abbrev pub lane_data : Lane → Data
+lane_data (Tid tid) = whole tid
+lane_data Management = string (codes "m")
+
+-- the one of this number, or null for the latest
+abbrev pub nth_data : Option ℕ → Data
+nth_data (Some n) = whole n
+nth_data None = null
+
+abbrev pub kept_name : KeptWhy → List ℕ
+kept_name NotSetUp = codes "notsetup"
+
+abbrev pub end_member : EndId → Named
+end_member end = (codes "end", string (end_name end))
+
+abbrev pub lane_member : Lane → Named
+lane_member lane = (codes "lane", lane_data lane)
+
+abbrev pub link_member : ℕ → Named
+link_member link = (codes "link", whole link)
+
+abbrev pub pos_member : ℕ → Named
+pos_member pos = (codes "pos", whole pos)
+
+abbrev pub command_name : Command → List ℕ
+command_name (commands.Queue end tid body) = codes "queue"
+command_name (commands.Reserve end lane) = codes "reserve"
+command_name (commands.Book end) = codes "book"
+command_name (commands.Put end link) = codes "put"
+command_name (commands.Deliver end link nth) = codes "deliver"
+command_name (commands.AckOut end lane) = codes "ack_out"
+command_name (commands.AckIn end nth) = codes "ack_in"
+
+-- what is shown of each command; of a body its size in octets
+abbrev pub command_members : Command → List Named
+command_members (commands.Queue end tid body) = end_member end ∷ (codes "tid", whole tid) ∷ (codes "size", whole (length body)) ∷ []
+command_members (commands.Reserve end lane) = end_member end ∷ lane_member lane ∷ []
+command_members (commands.Book end) = end_member end ∷ []
+command_members (commands.Put end link) = end_member end ∷ link_member link ∷ []
+command_members (commands.Deliver end link nth) = end_member end ∷ link_member link ∷ (codes "nth", nth_data nth) ∷ []
+command_members (commands.AckOut end lane) = end_member end ∷ lane_member lane ∷ []
+command_members (commands.AckIn end nth) = end_member end ∷ (codes "nth", nth_data nth) ∷ []
+
+abbrev pub answer_name : Outcome → List ℕ
+answer_name (outcomes.Queued pos) = codes "queued"
+answer_name outcomes.Reserved = codes "reserved"
+answer_name outcomes.HandFull = codes "handfull"
+answer_name outcomes.NothingQueued = codes "nothingqueued"
+answer_name outcomes.WindowFull = codes "windowfull"
+answer_name (outcomes.Booked lane n) = codes "booked"
+answer_name outcomes.NoReserve = codes "noreserve"
+answer_name (outcomes.Spent lane) = codes "spent"
+answer_name (outcomes.Put lane n retry) = codes "put"
+answer_name (outcomes.Kept lane pos why) = codes "kept"
+answer_name outcomes.Nothing = codes "nothing"
+answer_name outcomes.NotThere = codes "notthere"
+answer_name (outcomes.BadFrame why place) = codes "badframe"
+answer_name outcomes.LinkDown = codes "linkdown"
+answer_name outcomes.Ignored = codes "ignored"
+answer_name outcomes.NoKey = codes "nokey"
+answer_name outcomes.NotOpened = codes "notopened"
+answer_name outcomes.Replay = codes "replay"
+answer_name outcomes.OldNumber = codes "oldnumber"
+answer_name outcomes.Double = codes "double"
+answer_name (outcomes.Stored lane number n up) = codes "stored"
+answer_name (outcomes.Acked start stored) = codes "acked"
+answer_name outcomes.OldAck = codes "oldack"
+answer_name (outcomes.Done count) = codes "done"
+
+-- the position, key number and packet number of a booking
+abbrev pub booking_members : Lane → Numbers → List Named
+booking_members lane n = lane_member lane ∷ pos_member n.pos ∷ (codes "key", whole n.key) ∷ (codes "pn", whole n.pn) ∷ []
+
+-- what is shown of each answer
+abbrev pub answer_members : Outcome → List Named
+answer_members (outcomes.Queued pos) = pos_member pos ∷ []
+answer_members outcomes.Reserved = []
+answer_members outcomes.HandFull = []
+answer_members outcomes.NothingQueued = []
+answer_members outcomes.WindowFull = []
+answer_members (outcomes.Booked lane n) = booking_members lane n
+answer_members outcomes.NoReserve = []
+answer_members (outcomes.Spent lane) = lane_member lane ∷ []
+answer_members (outcomes.Put lane n retry) = (codes "retry", boolean retry) ∷ booking_members lane n
+answer_members (outcomes.Kept lane pos why) = lane_member lane ∷ pos_member pos ∷ (codes "why", string (kept_name why)) ∷ []
+answer_members outcomes.Nothing = []
+answer_members outcomes.NotThere = []
+answer_members (outcomes.BadFrame why place) = (codes "why", string (why_name why)) ∷ (codes "place", whole place) ∷ []
+answer_members outcomes.LinkDown = []
+answer_members outcomes.Ignored = []
+answer_members outcomes.NoKey = []
+answer_members outcomes.NotOpened = []
+answer_members outcomes.Replay = []
+answer_members outcomes.OldNumber = []
+answer_members outcomes.Double = []
+answer_members (outcomes.Stored lane number n up) = lane_member lane ∷ (codes "number", whole number) ∷ (codes "up", array (wholes up)) ∷ []
+answer_members (outcomes.Acked start stored) = (codes "start", whole start) ∷ (codes "stored", array (wholes stored)) ∷ []
+answer_members outcomes.OldAck = []
+answer_members (outcomes.Done count) = (codes "count", whole count) ∷ []
+
+-- A step: its thread, the command and the answer, each with its members.
+abbrev pub step_data : Step → Data
+step_data step =
+    object_of ((codes "t", whole step.thread) ∷ (codes "do", string (command_name step.command)) ∷ (codes "out", string (answer_name step.outcome))
+    ∷ (command_members step.command ++ answer_members step.outcome))
+
+unfoldable pub line : Step → List ℕ
+line step = compact_text (step_data step) ++ 10 ∷ []
+
+-- The latest step is given first, and its line stands last.
+abbrev pub journal_lines : List Step → List ℕ
+journal_lines [] = []
+journal_lines (step ∷ before) = journal_lines before ++ line step

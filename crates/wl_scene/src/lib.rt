@@ -1,0 +1,28 @@
+//! Scenarios that are read, and the texts of journals and reports.
+#![tactic(auto)]
+
+mod columns;
+mod commands;
+mod fault;
+mod head;
+mod journal;
+mod laws;
+mod line;
+mod member;
+mod report;
+mod runs;
+mod scenario;
+mod scene;
+mod totals;
+mod write;
+
+pub use fault::SceneFault;
+pub use journal::journal_text;
+pub use laws::{read_once, read_or_refused, runs_are_maximal};
+pub use report::report_line;
+pub use scenario::Scenario;
+pub use scene::read_scenario;
+pub use totals::{Released, Totals};
+
+#[cfg(test)]
+mod tests;

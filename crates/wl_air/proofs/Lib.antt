@@ -1,0 +1,13 @@
+pub mod Standing
+pub mod Sending
+pub mod Hearing
+pub mod Delivering
+pub mod Acting
+pub mod Delivered
+pub mod Lasts
+pub mod Made
+pub mod Hear
+pub mod Windows
+pub mod Bounds
+pub mod Steps
+pub mod Begun

@@ -1,0 +1,4 @@
+pub mod Acked
+pub mod Air
+pub mod World
+pub mod Acting

@@ -1,0 +1,194 @@
+//! Two ends, and what they acknowledged.
+
+ghost use Rattle.std.specs.Prelude.{◌≡◌, ◌+◌, ◌-◌, ◌^◌, ◌<◌, ◌≤◌, ◌++◌, ◌∷◌, [], length, option_copied, IfOk, OnOk, OnErr};
+ghost use Rattle.wl_elem.specs.declared.lane.Lane.{Lane};
+ghost use Rattle.wl_elem.specs.Lanes.{lane_index, peer_of};
+ghost use Rattle.wl_history.specs.declared.outcome.Outcome.TheVariants.{Queued as IsQueued, Acked as IsAcked};
+ghost use Rattle.wl_history.specs.Answers.{reserve_answer, book_answer, ack_out_answer};
+ghost use Rattle.wl_history.specs.Ends.{send_size};
+ghost use Rattle.wl_history.specs.Hands.{hand_of};
+ghost use Rattle.wl_history.specs.Words.{nth_of};
+ghost use Rattle.wl_air.specs.Acked.{ack_of};
+ghost use Rattle.wl_air.specs.Acting.{ack_answer, after_taken};
+ghost use Rattle.wl_history.specs.EndState.{IsEnd, lane_at, after_queue, after_reserve, after_book, after_put};
+ghost use Rattle.wl_end.specs.Putting.{put_of, aired_octets};
+
+use crate::acks::Acks;
+use std::alloc::Global;
+use wl_elem::{Bytes, EndId, Lane, LinkId, Memory, Tid};
+use wl_end::End;
+use wl_frame::Sealer;
+use wl_history::{Ack, Outcome, SequenceNumbers, Start};
+
+/// Two ends, and what each acknowledged.
+#[derive(Debug, Drop)]
+pub struct Air {
+    /// The AP MLD.
+    pub ap: End,
+    /// The station MLD.
+    pub sta: End,
+    /// What the AP acknowledged.
+    pub ap_acks: Acks,
+    /// What the station acknowledged.
+    pub sta_acks: Acks,
+}
+
+/// The answer to an acknowledgement that was made.
+fn acked(alloc: Global, ack: &Ack) -> Result<Outcome, Memory>
+    ensures { IfOk result (λ o. o ≡ IsAcked ack.now.start ack.now.stored) }
+{
+    let stored = SequenceNumbers::from_slice(alloc, ack.stored.as_slice())?;
+    Ok(Outcome::Acked {
+        start: ack.start,
+        stored,
+    })
+}
+
+/// Lets an end take an acknowledgement, where it is there.
+fn take(end: &mut End, ack: Option<&Ack>) -> Outcome
+    ensures answer { result ≡ ack_answer (option_copied ack.entry) end.old }
+    ensures after { end.new ≡ after_taken (option_copied ack.entry) end.old }
+{
+    let Some(ack) = ack else {
+        return Outcome::NotThere;
+    };
+    match end.ack_in(ack) {
+        Some(count) => Outcome::Done { count },
+        None => Outcome::OldAck,
+    }
+}
+
+impl Air {
+    ghost use Rattle.wl_elem.specs.declared.lane.EndId.{EndId};
+    ghost use Rattle.wl_air.specs.Air.{end_of, acks_of, with_end, with_acks, CanStart, begun};
+
+    /// Two ends that did nothing yet. `Memory` where there was none for their windows.
+    ///
+    /// Conditions, for each: the window is 1 to 256, and the first packet number 1 to 2^48 - 1.
+    pub fn new(alloc: Global, start: &Start) -> Result<Air, Memory>
+        requires ap { CanStart start.now.ap }
+        requires sta { CanStart start.now.sta }
+        ensures begun { IfOk result (λ a. a ≡ begun start.now) }
+        ensures sound { IfOk result (λ a. (e : EndId) → IsEnd (end_of a e)) }
+    {
+        let ap = End::new(alloc, &start.ap)?;
+        let sta = End::new(alloc, &start.sta)?;
+        Ok(Air {
+            ap,
+            sta,
+            ap_acks: Acks::new(alloc),
+            sta_acks: Acks::new(alloc),
+        })
+    }
+
+    /// Both ends are sound. It changes nothing and takes no memory.
+    pub fn test(&self)
+        ensures { (e : EndId) → IsEnd (end_of self.now e) }
+    {
+        self.ap.newest();
+        self.sta.newest();
+    }
+
+    /// An acknowledgement of a lane, which is kept for the peer.
+    pub fn ack_out(
+        &mut self,
+        alloc: Global,
+        end: EndId,
+        lane: &Lane,
+    ) -> Result<(Outcome, Outcome), Memory>
+        ensures answer { IfOk result (λ o. (o.0 ≡ ack_out_answer (lane_at (end_of self.old end) (lane_index lane.now)).window) × (o.1 ≡ o.0)) }
+        ensures after { IfOk result (λ o. self.new ≡ with_acks end (acks_of self.old end ++ ack_of lane.now (lane_at (end_of self.old end) (lane_index lane.now)).window ∷ []) self.old) }
+        ensures unchanged { OnErr result (self.new ≡ self.old) }
+    {
+        let ack = match end {
+            EndId::Ap => self.ap.ack_out(*lane)?,
+            EndId::Sta => self.sta.ack_out(*lane)?,
+        };
+        let outcome = acked(alloc, &ack)?;
+        let again = acked(alloc, &ack)?;
+        match end {
+            EndId::Ap => self.ap_acks.push(ack)?,
+            EndId::Sta => self.sta_acks.push(ack)?,
+        }
+        Ok((outcome, again))
+    }
+
+    /// Lets an end take the acknowledgement of its peer of this number, or the latest.
+    ///
+    /// NotThere where the peer made none such, OldAck where it is old; they change nothing. It takes no
+    /// memory.
+    pub fn ack_in(&mut self, end: EndId, nth: Option<u32>) -> Outcome
+        ensures answer { result ≡ ack_answer (nth_of nth (acks_of self.old (peer_of end))) (end_of self.old end) }
+        ensures after { self.new ≡ with_end end (after_taken (nth_of nth (acks_of self.old (peer_of end))) (end_of self.old end)) self.old }
+    {
+        match end {
+            EndId::Ap => take(&mut self.ap, self.sta_acks.named(nth)),
+            EndId::Sta => take(&mut self.sta, self.ap_acks.named(nth)),
+        }
+    }
+
+    /// Queues a body at an end.
+    pub fn queue(
+        &mut self,
+        alloc: Global,
+        end: EndId,
+        tid: Tid,
+        body: &Bytes,
+    ) -> Result<Outcome, Memory>
+        requires some { 1 ≤ length body.now }
+        requires limit { length body.now ≤ 2304 }
+        requires room { length (lane_at (end_of self.old end) tid).queue < 2 ^ 32 - 8192 }
+        ensures answer { IfOk result (λ o. o ≡ IsQueued (length (lane_at (end_of self.old end) tid).queue)) }
+        ensures after { OnOk result (self.new ≡ with_end end (after_queue tid body.now (end_of self.old end)) self.old) }
+        ensures unchanged { OnErr result (self.new ≡ self.old) }
+    {
+        let body = Bytes::from_slice(alloc, body.as_slice())?;
+        let pos = match end {
+            EndId::Ap => self.ap.queue(tid, body)?,
+            EndId::Sta => self.sta.queue(tid, body)?,
+        };
+        Ok(Outcome::Queued { pos })
+    }
+
+    /// Reserves at an end.
+    pub fn reserve(&mut self, end: EndId, thread: u16, lane: &Lane) -> Result<Outcome, Memory>
+        ensures answer { IfOk result (λ o. o ≡ reserve_answer (hand_of (end_of self.old end).hands thread) (length (lane_at (end_of self.old end) (lane_index lane.now)).queue) (lane_at (end_of self.old end) (lane_index lane.now)).sending (send_size (end_of self.old end).start (lane_index lane.now))) }
+        ensures after { IfOk result (λ o. self.new ≡ with_end end (after_reserve thread lane.now o (end_of self.old end)) self.old) }
+        ensures unchanged { OnErr result (self.new ≡ self.old) }
+    {
+        match end {
+            EndId::Ap => self.ap.reserve(thread, *lane),
+            EndId::Sta => self.sta.reserve(thread, *lane),
+        }
+    }
+
+    /// Books at an end.
+    pub fn book(&mut self, end: EndId, thread: u16) -> Result<Outcome, Memory>
+        ensures answer { IfOk result (λ o. o ≡ book_answer (hand_of (end_of self.old end).hands thread) (end_of self.old end).numbers) }
+        ensures after { IfOk result (λ o. self.new ≡ with_end end (after_book thread o (end_of self.old end)) self.old) }
+        ensures unchanged { OnErr result (self.new ≡ self.old) }
+    {
+        match end {
+            EndId::Ap => self.ap.book(thread),
+            EndId::Sta => self.sta.book(thread),
+        }
+    }
+
+    /// Puts at an end.
+    pub fn put<Z: Sealer>(
+        &mut self,
+        end: EndId,
+        thread: u16,
+        link: LinkId,
+        z: &Z,
+    ) -> Result<Outcome, Memory>
+        ensures answer { IfOk result (λ o. o ≡ put_of link (hand_of (end_of self.old end).hands thread) (end_of self.old end)) }
+        ensures after { IfOk result (λ o. self.new ≡ with_end end (after_put thread link (aired_octets (Z.text z.now) link (hand_of (end_of self.old end).hands thread) (end_of self.old end)) o (end_of self.old end)) self.old) }
+        ensures unchanged { OnErr result (self.new ≡ self.old) }
+    {
+        match end {
+            EndId::Ap => self.ap.put(thread, link, z),
+            EndId::Sta => self.sta.put(thread, link, z),
+        }
+    }
+}

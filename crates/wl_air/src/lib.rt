@@ -1,0 +1,13 @@
+//! The air between two ends, and the journal of all steps.
+#![tactic(auto)]
+
+mod acks;
+mod air;
+mod laws;
+
+pub use acks::Acks;
+pub use air::Air;
+pub use laws::{acts_make_steps, forgeries_are_forged, the_start_stands};
+
+#[cfg(test)]
+mod tests;

@@ -1,4 +1,4 @@
-//! The air between two ends, and the journal of all steps.
+//! Two ends and what they acknowledged, and the laws that join what they do to a history.
 #![tactic(auto)]
 
 mod acks;

@@ -1,14 +1,21 @@
 #!/usr/bin/env python3
-"""Measures the built program beside a yardstick, and prints a table.
+"""Measures the built program beside a yardstick, and prints two tables.
 
-Each input has 16 MiB of hex lines. The yardstick turns the same digits into octets: `xxd -r -p`,
-or a loop over `bytes.fromhex` where xxd is missing. Times are the least of some runs, in seconds of
-wall time; the ratio is the program's time over the yardstick's. Memory is the peak of the program.
+`decode`: each input has 16 MiB of hex lines. The yardstick turns the same digits into octets:
+`xxd -r -p`, or a loop over `bytes.fromhex` where xxd is missing.
+
+`run`: scenarios in which the AP queues, sends, and is acknowledged body by body, in rounds of five
+commands and seven steps. The yardstick is Python: reading the scenario and writing it again with
+`json`, and SHA-256 over its bodies twice with `hashlib`, as often as a body is sealed and opened.
+
+Times are the least of some runs, in seconds of wall time; the ratio is the program's time over the
+yardstick's. Memory is the peak of the program.
 
 Usage: bench/run.py [--runs N]
 """
 
 import argparse
+import json
 import os
 import shutil
 import subprocess
@@ -20,12 +27,24 @@ ROOT = os.path.dirname(os.path.dirname(os.path.abspath(__file__)))
 SIZE = 16 * 1024 * 1024
 GOAL_RATIO = 4.0
 GOAL_MEMORY_MB = 1000
+GOAL_GROWTH = 1.5
 
 PYTHON_YARDSTICK = """
 import sys
 out = sys.stdout.buffer
 for line in sys.stdin:
     out.write(bytes.fromhex(line))
+"""
+
+JSON_YARDSTICK = """
+import hashlib, json, sys
+scenario = json.load(sys.stdin)
+json.dump(scenario, sys.stdout)
+for command in scenario["before"]:
+    if "body" in command:
+        body = bytes.fromhex(command["body"])
+        hashlib.sha256(body).digest()
+        hashlib.sha256(body).digest()
 """
 
 
@@ -56,6 +75,37 @@ def inputs():
     yield f"mixed elements, {len(mixed_list())} octets a line", mixed
 
 
+def scenario(commands, octets):
+    """So many commands, bodies of so many octets: queue, send, deliver, acknowledge, and again."""
+    turn = [
+        {"do": "queue", "end": "ap", "tid": 0, "body": ""},
+        {"do": "send", "end": "ap", "link": 0, "lane": 0},
+        {"do": "deliver", "end": "sta", "link": 0},
+        {"do": "ack_out", "end": "sta", "lane": 0},
+        {"do": "ack_in", "end": "ap"},
+    ]
+    before = []
+    for i in range(commands):
+        command = dict(turn[i % 5])
+        if "body" in command:
+            command["body"] = (i % 65536).to_bytes(2, "big").hex() + "a5" * (octets - 2)
+        before.append(command)
+    return {
+        "version": 1,
+        "ap": "020000000001",
+        "sta": "020000000002",
+        "key": "000102030405060708090a0b0c0d0e0f",
+        "links": [{"id": 0, "ap": "020000000010", "sta": "020000000020"}],
+        "window": 1,
+        "before": before,
+    }
+
+
+def scenarios():
+    for commands, octets in [(1 << 10, 1500), (1 << 12, 1500), (1 << 14, 1500), (1 << 16, 400)]:
+        yield commands, octets
+
+
 def measure(command, path, runs):
     """The least wall time in seconds, and the peak memory in MB."""
     best, peak = None, 0
@@ -73,6 +123,58 @@ def measure(command, path, runs):
     return best, peak
 
 
+def note_missed(label, ratio, memory, missed):
+    if ratio > GOAL_RATIO:
+        missed.append(f"{label}: {ratio:.1f} times the yardstick, goal {GOAL_RATIO:.0f}")
+    if memory > GOAL_MEMORY_MB:
+        missed.append(f"{label}: {memory:.0f} MB, goal {GOAL_MEMORY_MB}")
+
+
+def decode_table(folder, program, yardstick, name, runs, missed):
+    print(f"| 16 MiB of lines | mld decode | {name} | ratio | a line | memory |")
+    print("|---|---|---|---|---|---|")
+    for label, line in inputs():
+        lines = SIZE // len(line)
+        path = os.path.join(folder, "input.hex")
+        with open(path, "wb") as file:
+            file.write(line * lines)
+        ours, memory = measure([program, "decode"], path, runs)
+        theirs, _ = measure(yardstick, path, runs)
+        ratio = ours / theirs
+        per_line = ours / lines * 1e6
+        print(
+            f"| {label} | {ours:.2f} s | {theirs:.2f} s | {ratio:.1f} "
+            f"| {per_line:.2f} us | {memory:.0f} MB |"
+        )
+        note_missed(label, ratio, memory, missed)
+
+
+def run_table(folder, program, runs, missed):
+    print("| commands, octets a body | mld run | json and hashlib | ratio | a step | memory |")
+    print("|---|---|---|---|---|---|")
+    steps_took = []
+    for commands, octets in scenarios():
+        path = os.path.join(folder, "scenario.json")
+        with open(path, "w", encoding="ascii") as file:
+            json.dump(scenario(commands, octets), file, separators=(",", ":"))
+        ours, memory = measure([program, "run"], path, runs)
+        theirs, _ = measure([sys.executable, "-c", JSON_YARDSTICK], path, runs)
+        ratio = ours / theirs
+        steps = commands // 5 * 7 + [0, 1, 4, 5, 6][commands % 5]
+        per_step = ours / steps * 1e6
+        label = f"{commands:,}, {octets:,}"
+        print(
+            f"| {label} | {ours:.3f} s | {theirs:.3f} s | {ratio:.1f} "
+            f"| {per_step:.1f} us | {memory:.0f} MB |"
+        )
+        note_missed(label, ratio, memory, missed)
+        if octets == 1500:
+            steps_took.append(per_step)
+    growth = steps_took[-1] / steps_took[0]
+    if growth > GOAL_GROWTH:
+        missed.append(f"a step takes {growth:.1f} times as long in the largest, goal {GOAL_GROWTH}")
+
+
 def main():
     parser = argparse.ArgumentParser(description=__doc__.splitlines()[0])
     parser.add_argument("--runs", type=int, default=5)
@@ -86,27 +188,11 @@ def main():
     else:
         yardstick, name = [sys.executable, "-c", PYTHON_YARDSTICK], "bytes.fromhex"
 
-    print(f"| 16 MiB of lines | mld decode | {name} | ratio | a line | memory |")
-    print("|---|---|---|---|---|---|")
     missed = []
     with tempfile.TemporaryDirectory() as folder:
-        for label, line in inputs():
-            lines = SIZE // len(line)
-            path = os.path.join(folder, "input.hex")
-            with open(path, "wb") as file:
-                file.write(line * lines)
-            ours, memory = measure([program, "decode"], path, runs)
-            theirs, _ = measure(yardstick, path, runs)
-            ratio = ours / theirs
-            per_line = ours / lines * 1e6
-            print(
-                f"| {label} | {ours:.2f} s | {theirs:.2f} s | {ratio:.1f} "
-                f"| {per_line:.2f} us | {memory:.0f} MB |"
-            )
-            if ratio > GOAL_RATIO:
-                missed.append(f"{label}: {ratio:.1f} times the yardstick, goal {GOAL_RATIO:.0f}")
-            if memory > GOAL_MEMORY_MB:
-                missed.append(f"{label}: {memory:.0f} MB, goal {GOAL_MEMORY_MB}")
+        decode_table(folder, program, yardstick, name, runs, missed)
+        print()
+        run_table(folder, program, runs, missed)
     for line in missed:
         print(f"missed: {line}")
 

@@ -1,4 +1,5 @@
-//! `mld`: decodes and checks IEEE 802.11be elements given as hex lines.
+//! `mld`: decodes IEEE 802.11be elements given as hex lines, and runs scenarios of two multi-link
+//! devices.
 //!
 //! It reads standard input, writes standard output, and ends with the status of the run.
 #![tactic(auto)]
@@ -7,6 +8,7 @@ use std::env::{self, Env};
 use std::io;
 use std::io::Write;
 use std::process::ExitCode;
+use wl_frame::StandIn;
 use wl_io::{StdSink, StdSource};
 use wl_top::mld_run;
 
@@ -23,6 +25,12 @@ fn main(rt: HostRuntime) -> io::Result<ExitCode> {
     let words = words(&rt)?;
     let mut source = StdSource::new(rt.stdin());
     let mut sink = StdSink::new(rt.stdout());
-    let outcome = mld_run(rt.alloc(), words.as_slice(), &mut source, &mut sink);
+    let outcome = mld_run(
+        rt.alloc(),
+        words.as_slice(),
+        &mut source,
+        &mut sink,
+        &StandIn,
+    );
     Ok(ExitCode::from(outcome.status))
 }

@@ -9,5 +9,9 @@ pub mod Made
 pub mod Hear
 pub mod Windows
 pub mod Bounds
+pub mod Kept
+pub mod Worlds
+pub mod Plays
+pub mod Onces
 pub mod Steps
 pub mod Begun

@@ -1,17 +1,13 @@
 -- A window moves by at most half the number space a step, and what it stores lies less than that ahead.
 use Rattle.std.proofs.Common.{◌≡◌, ℕ, ◌+◌, ◌-◌, ◌<◌, ◌≤◌, max, Bool, true, false, List, [], ◌∷◌, refl, arith}
 use Rattle.std.specs.Prelude.{◌==◌, nat_lt, nat_le, if◌then◌else◌}
-use Rattle.std.specs.List.{AllByRecursion}
 use Rattle.std.proofs.lemmas.Bool.{eqb-true, leb-false}
 use Rattle.wl_window.specs.declared.slot.Slot.{Slot}
 use Rattle.wl_window.specs.Numbering.{full}
+use Rattle.wl_air.specs.World.{AllBelow, IsNear}
 use Rattle.wl_window.specs.Reordering.{Window, Moved, Arrived, Old, Doubled, Stored, holds, placed, from, run_end, advanced, arrived}
 
 module _ {T : Type 0} where
-  -- all slots have lower numbers
-  abbrev pub AllBelow : ℕ → List (Slot T) → Type 0
-  AllBelow high slots = AllByRecursion (λ (slot : Slot T). slot.number < high) slots
-
   below_placed : (high : ℕ) (new : Slot T) (slots : List (Slot T)) → new.number < high → AllBelow high slots → AllBelow high (placed new slots)
   below_placed high new [] lt h = (lt, tt)
   below_placed high new (slot ∷ slots) lt h =
@@ -48,10 +44,6 @@ module _ {T : Type 0} where
   run_from : (start : ℕ) (slots : List (Slot T)) → start ≤ run_end start slots
   run_from start [] = omega arith
   run_from start (slot ∷ slots) = run_by_from (slot.number == start) start slot slots (run_from (start + 1) slots)
-
-  -- a window whose slots lie less than half the number space ahead
-  abbrev pub IsNear : Window T → Type 0
-  IsNear w = AllBelow (w.start + 2048) w.slots
 
   pub record MovesNear (old : Window T) (moved : Moved T) : Type 0 where
     pub near : IsNear moved.window

@@ -1,5 +1,5 @@
 -- What a command answers and does to two ends, with no history.
-use Rattle.std.specs.Prelude.{◌≡◌, ℕ, ◌<◌, ◌++◌, List, [], ◌∷◌, length, Option, None, Some}
+use Rattle.std.specs.Prelude.{◌≡◌, ℕ, ◌<◌, ◌≤◌, ◌++◌, List, [], ◌∷◌, length, Option, None, Some}
 use Rattle.wl_elem.specs.declared.lane.EndId.{EndId}
 use Rattle.wl_elem.specs.declared.lane.Lane.{Lane}
 use Rattle.wl_elem.specs.Lanes.{lane_index, peer_of}
@@ -18,9 +18,10 @@ use Rattle.wl_history.specs.Words.{nth_of, body_at}
 use Rattle.wl_history.specs.EndState.{EndState, lane_at, frames_on, acked_by, hear_answer, after_queue, after_reserve, after_book, after_put, after_hear, after_ack}
 use Rattle.wl_end.specs.declared.peeking.Peek.{Peek}
 use Rattle.wl_end.specs.declared.peeking.Peek.TheVariants as peeks
-use Rattle.wl_history.specs.declared.step.Step.{Step}
 use Rattle.wl_end.specs.Putting.{put_of, aired_octets}
 use Rattle.wl_end.specs.Peeking.{IsPeek, IsBookingOf}
+use Rattle.wl_air.specs.declared.fault.StepFault.{StepFault}
+use Rattle.wl_air.specs.declared.fault.StepFault.TheVariants as faults
 use Rattle.wl_air.specs.Acked.{ack_of}
 use Rattle.wl_air.specs.Air.{AirState, end_of, acks_of, with_end, with_acks}
 
@@ -55,9 +56,19 @@ abbrev pub Forged : EndState → Peek → Opened → Type 0
 Forged sender (peeks.Answered answer) opened = ⊥
 Forged sender (peeks.Opened four lane number pn) opened = (opened ≡ four) × ((pos : ℕ) → IsBookingOf sender lane pn four pos → ⊥)
 
+-- why what was seen isn't taken
+abbrev pub IsOpenedFault : EndState → Peek → StepFault → Type 0
+IsOpenedFault sender peek (faults.Forged opened) = Forged sender peek opened
+IsOpenedFault sender peek faults.Memory = Unit {0}
+
 abbrev pub ForgedIf : Sealing → EndState → EndState → ℕ → Option (List ℕ) → Opened → Type 0
 ForgedIf text s sender link None opened = ⊥
 ForgedIf text s sender link (Some octets) opened = (peek : Peek) × IsPeek text s link octets peek × Forged sender peek opened
+
+-- why nothing was heard: what was opened is forged; want of memory has no cause
+abbrev pub IsHearFault : Sealing → EndState → EndState → ℕ → Option (List ℕ) → StepFault → Type 0
+IsHearFault text s sender link octets (faults.Forged opened) = ForgedIf text s sender link octets opened
+IsHearFault text s sender link octets faults.Memory = Unit {0}
 
 abbrev pub octets_named : AirState → EndId → ℕ → Option ℕ → Option (List ℕ)
 octets_named a end link nth = nth_of nth (frames_on (end_of a (peer_of end)) link)
@@ -87,12 +98,18 @@ abbrev pub Forges : Sealing → Command → AirState → Opened → Type 0
 Forges text (commands.Deliver end link nth) a opened = ForgedIf text (end_of a end) (end_of a (peer_of end)) link (octets_named a end link nth) opened
 Forges text other a opened = ⊥
 
+-- why a command isn't done
+abbrev pub IsStepFault : Sealing → Command → AirState → StepFault → Type 0
+IsStepFault text command a (faults.Forged opened) = Forges text command a opened
+IsStepFault text command a faults.Memory = Unit {0}
+
+-- a body that is queued has a length that bodies have
+abbrev pub BodyFits : Command → Type 0
+BodyFits (commands.Queue end tid body) = (1 ≤ length body) × (length body ≤ 2304)
+BodyFits other = Unit {0}
+
 -- the links that a command names are below 15
 abbrev pub OnLinks : Command → Type 0
 OnLinks (commands.Put end link) = link < 15
 OnLinks (commands.Deliver end link nth) = link < 15
 OnLinks other = Unit {0}
-
--- the step of a command that was given this answer
-abbrev pub step_of : ℕ → Command → Outcome → Step
-step_of thread command outcome = record { thread = thread; command = command; outcome = outcome }

@@ -1,6 +1,11 @@
 //! Two ends, and what they acknowledged.
 
-ghost use Rattle.std.specs.Prelude.{◌≡◌, ◌+◌, ◌-◌, ◌^◌, ◌<◌, ◌≤◌, ◌++◌, ◌∷◌, [], length, option_copied, IfOk, OnOk, OnErr};
+ghost use Rattle.std.specs.Prelude.{◌≡◌, ◌+◌, ◌-◌, ◌^◌, ◌<◌, ◌≤◌, ◌++◌, ◌∷◌, [], length, option_copied, IfOk, IfErr, OnOk, OnErr, ℕ};
+ghost use Rattle.std.specs.List.{Contains};
+ghost use Rattle.wl_number.specs.declared.numbers.Numbers.{Numbers};
+ghost use Rattle.wl_number.specs.NumberObject.{InRange};
+ghost use Rattle.wl_number.specs.OrderRule.{list_at};
+ghost use Rattle.wl_history.specs.Plain.{IsPlain};
 ghost use Rattle.wl_elem.specs.declared.lane.Lane.{Lane};
 ghost use Rattle.wl_elem.specs.Lanes.{lane_index, peer_of};
 ghost use Rattle.wl_history.specs.declared.outcome.Outcome.TheVariants.{Queued as IsQueued, Acked as IsAcked};
@@ -9,16 +14,19 @@ ghost use Rattle.wl_history.specs.Ends.{send_size};
 ghost use Rattle.wl_history.specs.Hands.{hand_of};
 ghost use Rattle.wl_history.specs.Words.{nth_of};
 ghost use Rattle.wl_air.specs.Acked.{ack_of};
-ghost use Rattle.wl_air.specs.Acting.{ack_answer, after_taken};
-ghost use Rattle.wl_history.specs.EndState.{IsEnd, lane_at, after_queue, after_reserve, after_book, after_put};
+ghost use Rattle.wl_air.specs.Acting.{Acts, BodyFits, IsStepFault, HeardIf, IsHearFault, ack_answer, after_taken, octets_named};
+ghost use Rattle.wl_air.specs.World.{IsRoomy};
+ghost use Rattle.wl_history.specs.EndState.{EndState, IsEnd, lane_at, after_queue, after_reserve, after_book, after_put};
 ghost use Rattle.wl_end.specs.Putting.{put_of, aired_octets};
 
 use crate::acks::Acks;
+use crate::fault::StepFault;
+use crate::listening::{aired, hear_if};
 use std::alloc::Global;
 use wl_elem::{Bytes, EndId, Lane, LinkId, Memory, Tid};
 use wl_end::End;
 use wl_frame::Sealer;
-use wl_history::{Ack, Outcome, SequenceNumbers, Start};
+use wl_history::{Ack, Command, Outcome, SequenceNumbers, Start};
 
 /// Two ends, and what each acknowledged.
 #[derive(Debug, Drop)]
@@ -47,6 +55,7 @@ fn acked(alloc: Global, ack: &Ack) -> Result<Outcome, Memory>
 /// Lets an end take an acknowledgement, where it is there.
 fn take(end: &mut End, ack: Option<&Ack>) -> Outcome
     ensures answer { result ≡ ack_answer (option_copied ack.entry) end.old }
+    ensures plain { IsPlain result }
     ensures after { end.new ≡ after_taken (option_copied ack.entry) end.old }
 {
     let Some(ack) = ack else {
@@ -56,6 +65,16 @@ fn take(end: &mut End, ack: Option<&Ack>) -> Outcome
         Some(count) => Outcome::Done { count },
         None => Outcome::OldAck,
     }
+}
+
+/// The same answer twice: for the caller and for the journal.
+fn twice(outcome: Outcome) -> (Outcome, Outcome)
+    requires { IsPlain outcome }
+    ensures one { result.0 ≡ outcome }
+    ensures other { result.1 ≡ outcome }
+{
+    let again = outcome.again();
+    (outcome, again)
 }
 
 impl Air {
@@ -81,12 +100,13 @@ impl Air {
         })
     }
 
-    /// Both ends are sound. It changes nothing and takes no memory.
+    /// What holds of both ends at any time. It changes nothing and takes no memory.
     pub fn test(&self)
-        ensures { (e : EndId) → IsEnd (end_of self.now e) }
+        ensures sound { (e : EndId) → IsEnd (end_of self.now e) }
+        ensures in_range { (e : EndId) (place : ℕ) (n : Numbers) → Contains (list_at (end_of self.now e).booked place) n → InRange n }
     {
-        self.ap.newest();
-        self.sta.newest();
+        self.ap.test();
+        self.sta.test();
     }
 
     /// An acknowledgement of a lane, which is kept for the peer.
@@ -113,11 +133,44 @@ impl Air {
         Ok((outcome, again))
     }
 
+    /// Lets an end hear the frame of its peer of this number on a link, from 0, or the latest there. The
+    /// answer comes twice: for the caller and for the journal.
+    ///
+    /// NotThere where there is no such frame; else what `End::peek` and `End::hear` say of it. `Forged`
+    /// exactly where it opens and the peer has no booking of what it opens to. After an error nothing
+    /// has changed.
+    pub fn deliver<Z: Sealer>(
+        &mut self,
+        alloc: Global,
+        end: EndId,
+        link: LinkId,
+        nth: Option<u32>,
+        z: &Z,
+    ) -> Result<(Outcome, Outcome), StepFault>
+        requires roomy { IsRoomy (end_of self.old end) }
+        ensures heard { IfOk result (λ o. (s' : EndState) × HeardIf (Z.text z.now) (end_of self.old end) (end_of self.old (peer_of end)) link (octets_named self.old end link nth) o.0 s' × (self.new ≡ with_end end s' self.old)) }
+        ensures again { IfOk result (λ o. o.1 ≡ o.0) }
+        ensures fault { IfErr result (IsHearFault (Z.text z.now) (end_of self.old end) (end_of self.old (peer_of end)) link (octets_named self.old end link nth)) }
+        ensures unchanged { OnErr result (self.new ≡ self.old) }
+    {
+        match end {
+            EndId::Ap => {
+                let octets = aired(&self.sta, link, nth);
+                hear_if(alloc, &mut self.ap, &self.sta, link, octets, z)
+            }
+            EndId::Sta => {
+                let octets = aired(&self.ap, link, nth);
+                hear_if(alloc, &mut self.sta, &self.ap, link, octets, z)
+            }
+        }
+    }
+
     /// Lets an end take the acknowledgement of its peer of this number, or the latest.
     ///
     /// NotThere where the peer made none such, OldAck where it is old; they change nothing. It takes no
     /// memory.
     pub fn ack_in(&mut self, end: EndId, nth: Option<u32>) -> Outcome
+        ensures plain { IsPlain result }
         ensures answer { result ≡ ack_answer (nth_of nth (acks_of self.old (peer_of end))) (end_of self.old end) }
         ensures after { self.new ≡ with_end end (after_taken (nth_of nth (acks_of self.old (peer_of end))) (end_of self.old end)) self.old }
     {
@@ -139,6 +192,7 @@ impl Air {
         requires limit { length body.now ≤ 2304 }
         requires room { length (lane_at (end_of self.old end) tid).queue < 2 ^ 32 - 8192 }
         ensures answer { IfOk result (λ o. o ≡ IsQueued (length (lane_at (end_of self.old end) tid).queue)) }
+        ensures plain { IfOk result IsPlain }
         ensures after { OnOk result (self.new ≡ with_end end (after_queue tid body.now (end_of self.old end)) self.old) }
         ensures unchanged { OnErr result (self.new ≡ self.old) }
     {
@@ -153,6 +207,7 @@ impl Air {
     /// Reserves at an end.
     pub fn reserve(&mut self, end: EndId, thread: u16, lane: &Lane) -> Result<Outcome, Memory>
         ensures answer { IfOk result (λ o. o ≡ reserve_answer (hand_of (end_of self.old end).hands thread) (length (lane_at (end_of self.old end) (lane_index lane.now)).queue) (lane_at (end_of self.old end) (lane_index lane.now)).sending (send_size (end_of self.old end).start (lane_index lane.now))) }
+        ensures plain { IfOk result IsPlain }
         ensures after { IfOk result (λ o. self.new ≡ with_end end (after_reserve thread lane.now o (end_of self.old end)) self.old) }
         ensures unchanged { OnErr result (self.new ≡ self.old) }
     {
@@ -165,6 +220,7 @@ impl Air {
     /// Books at an end.
     pub fn book(&mut self, end: EndId, thread: u16) -> Result<Outcome, Memory>
         ensures answer { IfOk result (λ o. o ≡ book_answer (hand_of (end_of self.old end).hands thread) (end_of self.old end).numbers) }
+        ensures plain { IfOk result IsPlain }
         ensures after { IfOk result (λ o. self.new ≡ with_end end (after_book thread o (end_of self.old end)) self.old) }
         ensures unchanged { OnErr result (self.new ≡ self.old) }
     {
@@ -183,12 +239,45 @@ impl Air {
         z: &Z,
     ) -> Result<Outcome, Memory>
         ensures answer { IfOk result (λ o. o ≡ put_of link (hand_of (end_of self.old end).hands thread) (end_of self.old end)) }
+        ensures plain { IfOk result IsPlain }
         ensures after { IfOk result (λ o. self.new ≡ with_end end (after_put thread link (aired_octets (Z.text z.now) link (hand_of (end_of self.old end).hands thread) (end_of self.old end)) o (end_of self.old end)) self.old) }
         ensures unchanged { OnErr result (self.new ≡ self.old) }
     {
         match end {
             EndId::Ap => self.ap.put(thread, link, z),
             EndId::Sta => self.sta.put(thread, link, z),
+        }
+    }
+
+    /// Lets an end do a command of a thread. The answer comes twice: for the caller and for the journal.
+    ///
+    /// `Forged` exactly where a delivered frame opens and its sender has no booking of what it opens to.
+    /// After an error nothing has changed.
+    ///
+    /// Conditions: a body to be queued has 1 to 2,304 octets, no queue has 2^32 - 8,192 bodies or more,
+    /// and no window starts there or higher.
+    pub fn act<Z: Sealer>(
+        &mut self,
+        alloc: Global,
+        thread: u16,
+        command: &Command,
+        z: &Z,
+    ) -> Result<(Outcome, Outcome), StepFault>
+        requires fits { BodyFits command.now }
+        requires roomy { (e : EndId) → IsRoomy (end_of self.old e) }
+        ensures acts { IfOk result (λ o. Acts (Z.text z.now) thread command.now self.old o.0 self.new) }
+        ensures again { IfOk result (λ o. o.1 ≡ o.0) }
+        ensures fault { IfErr result (IsStepFault (Z.text z.now) command.now self.old) }
+        ensures unchanged { OnErr result (self.new ≡ self.old) }
+    {
+        match command {
+            Command::Queue { end, tid, body } => Ok(twice(self.queue(alloc, *end, *tid, body)?)),
+            Command::Reserve { end, lane } => Ok(twice(self.reserve(*end, thread, lane)?)),
+            Command::Book { end } => Ok(twice(self.book(*end, thread)?)),
+            Command::Put { end, link } => Ok(twice(self.put(*end, thread, *link, z)?)),
+            Command::Deliver { end, link, nth } => self.deliver(alloc, *end, *link, *nth, z),
+            Command::AckOut { end, lane } => Ok(self.ack_out(alloc, *end, lane)?),
+            Command::AckIn { end, nth } => Ok(twice(self.ack_in(*end, *nth))),
         }
     }
 }

@@ -10,10 +10,12 @@ ghost use Rattle.wl_history.specs.declared.step.Step.{Step};
 ghost use Rattle.wl_history.specs.Legal.{Fits, IsForged};
 ghost use Rattle.wl_air.specs.Air.{AirState, begun};
 ghost use Rattle.wl_air.specs.World.{world_of, Stands, IsAir, AreBookedShort};
-ghost use Rattle.wl_air.specs.Acting.{Acts, Forges, OnLinks, step_of};
+ghost use Rattle.wl_air.specs.Acting.{Acts, Forges, OnLinks};
+ghost use Rattle.wl_history.specs.declared.script.Item.{Item};
+ghost use Rattle.wl_history.specs.Runs.{step_of, Plays, Stops};
 
 use wl_frame::{nonce_tells_lane, read_once};
-use wl_history::{what_is_judged_is_plain, what_opens_fits};
+use wl_history::{one_history, what_is_judged_is_plain, what_opens_fits};
 use wl_number::{a_draw_is_next, booked_once};
 
 /// Two ends that did nothing yet stand for the history of no steps.
@@ -48,4 +50,13 @@ pub fn forgeries_are_forged()
     a_draw_is_next();
     what_opens_fits();
     what_is_judged_is_plain()
+}
+
+/// A script is played in one way: it leaves one history, and stops in one.
+pub fn played_once()
+    ensures plays { (text : Sealing) (start : Start) (items : List Item) (a b : List Step) → Plays text start items [] a → Plays text start items [] b → a ≡ b }
+    ensures stops { (text : Sealing) (start : Start) (items : List Item) (a b : List Step) (opened other : Opened) → Stops text start items [] a opened → Stops text start items [] b other → a ≡ b }
+    ensures either { (text : Sealing) (start : Start) (items : List Item) (a b : List Step) (opened : Opened) → Plays text start items [] a → Stops text start items [] b opened → ⊥ }
+{
+    one_history()
 }

@@ -3,11 +3,17 @@
 
 mod acks;
 mod air;
+mod fault;
 mod laws;
+mod listening;
+mod playing;
+mod world;
 
 pub use acks::Acks;
 pub use air::Air;
-pub use laws::{acts_make_steps, forgeries_are_forged, the_start_stands};
+pub use fault::StepFault;
+pub use laws::{acts_make_steps, forgeries_are_forged, played_once, the_start_stands};
+pub use world::World;
 
 #[cfg(test)]
 mod tests;

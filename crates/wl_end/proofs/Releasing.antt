@@ -1,6 +1,6 @@
 -- What is released of what goes up, one after the other.
-use Rattle.std.proofs.Common.{◌≡◌, ℕ, zero, suc, ◌<◌, true, false, List, [], ◌∷◌, ◌++◌, length, set, Option, Some, None, refl, sym, ap, ◌∙◌, arith, append_assoc}
-use Rattle.std.specs.Prelude.{slice_set, slice_get, drop}
+use Rattle.std.proofs.Common.{◌≡◌, ℕ, zero, suc, ◌+◌, ◌<◌, ◌≤◌, Bool, true, false, List, [], ◌∷◌, ◌++◌, length, set, Option, Some, None, refl, sym, ap, ◌∙◌, arith, append_assoc}
+use Rattle.std.specs.Prelude.{slice_set, slice_get, drop, if◌then◌else◌}
 use Rattle.std.proofs.lemmas.List.{get_or-set_same, set-get_or, length-set}
 use Rattle.wl_elem.specs.declared.lane.Lane.{Lane}
 use Rattle.wl_elem.specs.Lanes.{lane_index}
@@ -39,6 +39,17 @@ module _ (pairs : List (Option Pair)) (lane : Lane) (within : lane_index lane < 
 
   pub dropped : is_above (last_of pairs lane) a.numbers.key a.numbers.pn ≡ false → let_up (last_of pairs lane) items ≡ let_up (last_of pairs lane) (a ∷ items)
   dropped is = sym (rw is refl)
+
+-- no more positions are released than items go up
+few_by : (b : Bool) (pos : ℕ) (more less : LetUp) (count : ℕ) → length more.positions ≤ count → length less.positions ≤ count → length (if b then before_it pos more else less).positions ≤ count + 1
+few_by true pos more less count h k = omega (arith, h)
+few_by false pos more less count h k = omega (arith, k)
+
+pub let_up_few : (last : Option Pair) (items : List Arrival) → length (let_up last items).positions ≤ length items
+let_up_few last [] = omega arith
+let_up_few last (a ∷ items) =
+    let few : length (let_up last (a ∷ items)).positions ≤ length items + 1 = few_by (is_above last a.numbers.key a.numbers.pn) a.numbers.pos (let_up (Some (pair_of a)) items) (let_up last items) (length items) (let_up_few (Some (pair_of a)) items) (let_up_few last items) in
+    omega (arith, few)
 
 -- nothing is left
 pub none_left : (pairs : List (Option Pair)) (lane : Lane) → last_with pairs lane [] ≡ pairs

@@ -1,5 +1,5 @@
 -- What comes of a body that a lane's window takes or refuses.
-use Rattle.std.specs.Prelude.{List, ◌++◌, Option, slice_set}
+use Rattle.std.specs.Prelude.{ℕ, ◌≤◌, List, ◌++◌, length, Option, slice_set}
 use Rattle.wl_elem.specs.declared.lane.Lane.{Lane}
 use Rattle.wl_elem.specs.Lanes.{lane_index}
 use Rattle.wl_replay.specs.declared.replay.Pair.{Pair}
@@ -15,6 +15,11 @@ abbrev pub heard_of : Option Pair → Arrived Arrival → Heard
 heard_of last Old = heard.Old
 heard_of last Doubled = heard.Doubled
 heard_of last (Stored moved) = heard.Stored (let_up last moved.up).positions
+
+-- at most so many positions are released
+abbrev pub HeardFits : ℕ → Heard → Type 0
+HeardFits room (heard.Stored up) = length up ≤ room
+HeardFits room other = Unit {0}
 
 -- what it leaves of the lane
 abbrev pub lane_after : Option Pair → Arrived Arrival → LaneState → LaneState

@@ -12,6 +12,7 @@ use Rattle.wl_history.specs.declared.opened.Opened.{Opened}
 use Rattle.wl_history.specs.declared.outcome.Outcome.{Outcome}
 use Rattle.wl_history.specs.declared.outcome.Outcome.TheVariants as outcomes
 use Rattle.wl_history.specs.declared.start.EndStart.{EndStart}
+use Rattle.wl_history.specs.Plain.{IsPlain}
 use Rattle.wl_history.specs.Hearing.{Closed, Judged, Answered, ToOpen, judged, opened_under, sealed_under, text_of}
 use Rattle.wl_history.specs.Words.{body_at}
 use Rattle.wl_history.specs.EndState.{EndState, lane_at}
@@ -59,10 +60,10 @@ pub record IsPeek (text : Sealing) (s : EndState) (link : ℕ) (octets : List �
   pub read : ReadAs octets reading
   pub peeked : PeekedAs text s.start (judged s.start s.start.end s.newest link reading) peek
 
--- what is opened has a lane and a number of 12 bits
+-- what is opened has a lane and a number of 12 bits, and what is answered carries no list
 abbrev pub PeekFits : Peek → Type 0
 PeekFits (peeks.Opened four lane number pn) = (number < 4096) × IsLane lane
-PeekFits (peeks.Answered outcome) = Unit {0}
+PeekFits (peeks.Answered outcome) = IsPlain outcome
 
 -- the own booking at this position of the lane is what was opened
 pub record IsBookingOf (s : EndState) (lane : Lane) (pn : ℕ) (four : Opened) (pos : ℕ) : Type 0 where

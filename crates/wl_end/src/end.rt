@@ -5,7 +5,9 @@ ghost use Rattle.wl_elem.specs.declared.lane.Lane.{Lane};
 ghost use Rattle.wl_elem.specs.Lanes.{lane_index, lane_count, IsLane};
 ghost use Rattle.wl_elem.specs.Links.{link_limit, has_link};
 ghost use Rattle.wl_number.specs.NumberObject.{InRange, position_of, is_spent, drawn, after_draw};
-ghost use Rattle.wl_number.specs.OrderRule.{NoneBreaks, with_booking};
+ghost use Rattle.wl_number.specs.declared.numbers.Numbers.{Numbers};
+ghost use Rattle.wl_number.specs.OrderRule.{NoneBreaks, list_at, with_booking};
+ghost use Rattle.std.specs.List.{Contains};
 ghost use Rattle.wl_number.specs.Bookings.{booking_count};
 ghost use Rattle.wl_window.specs.Reordering.{stored_numbers};
 ghost use Rattle.wl_window.specs.Originating.{newly_answer};
@@ -14,6 +16,7 @@ ghost use Rattle.wl_history.specs.declared.hand.Hand.TheVariants.{Reserve as Hol
 ghost use Rattle.wl_history.specs.Hands.{hand_of};
 ghost use Rattle.wl_history.specs.Answers.{reserve_answer, book_answer};
 ghost use Rattle.wl_history.specs.Ends.{send_size, receive_size, is_set_up};
+ghost use Rattle.wl_history.specs.Plain.{IsPlain, FitsIn};
 ghost use Rattle.wl_history.specs.Words.{at, last_of};
 
 use crate::airing::{Flight, Under, frame_octets};
@@ -185,6 +188,7 @@ impl End {
     /// the first of these that holds. They change nothing. After `Memory` nothing has changed.
     pub fn reserve(&mut self, thread: u16, lane: Lane) -> Result<Outcome, Memory>
         ensures answer { IfOk result (λ o. o ≡ reserve_answer (hand_of self.old.hands thread) (length (lane_at self.old (lane_index lane)).queue) (lane_at self.old (lane_index lane)).sending (send_size self.old.start (lane_index lane))) }
+        ensures plain { IfOk result IsPlain }
         ensures after { IfOk result (λ o. self.new ≡ after_reserve thread lane o self.old) }
         ensures unchanged { OnErr result (self.new ≡ self.old) }
         ensures sound { IsEnd self.new }
@@ -252,6 +256,7 @@ impl End {
     /// nothing has changed.
     pub fn book(&mut self, thread: u16) -> Result<Outcome, Memory>
         ensures answer { IfOk result (λ o. o ≡ book_answer (hand_of self.old.hands thread) self.old.numbers) }
+        ensures plain { IfOk result IsPlain }
         ensures after { IfOk result (λ o. self.new ≡ after_book thread o self.old) }
         ensures unchanged { OnErr result (self.new ≡ self.old) }
         ensures sound { IsEnd self.new }
@@ -326,6 +331,7 @@ impl End {
     /// up. After `Memory` nothing has changed.
     pub fn put<Z: Sealer>(&mut self, thread: u16, link: LinkId, z: &Z) -> Result<Outcome, Memory>
         ensures answer { IfOk result (λ o. o ≡ put_of link (hand_of self.old.hands thread) self.old) }
+        ensures plain { IfOk result IsPlain }
         ensures after { IfOk result (λ o. self.new ≡ after_put thread link (aired_octets (Z.text z.now) link (hand_of self.old.hands thread) self.old) o self.old) }
         ensures unchanged { OnErr result (self.new ≡ self.old) }
         ensures sound { IsEnd self.new }
@@ -414,6 +420,7 @@ impl End {
     pub fn hear(&mut self, lane: Lane, number: u16, arrival: Arrival) -> Result<Outcome, Memory>
         requires { (lane_at self.old (lane_index lane)).window.start < 2 ^ 32 - 8192 }
         ensures answer { IfOk result (λ o. o ≡ hear_answer lane number (receive_size self.old.start (lane_index lane)) arrival self.old) }
+        ensures fits { IfOk result (FitsIn (length (lane_at self.old (lane_index lane)).window.slots + 1)) }
         ensures after { OnOk result (self.new ≡ after_hear lane number (receive_size self.old.start (lane_index lane)) arrival self.old) }
         ensures unchanged { OnErr result (self.new ≡ self.old) }
         ensures sound { IsEnd self.new }
@@ -491,6 +498,14 @@ impl End {
         self.frames.latest(link)
     }
 
+    /// What holds of it at any time. It changes nothing and takes no memory.
+    pub fn test(&self)
+        ensures sound { IsEnd self.now }
+        ensures in_range { (place : ℕ) (n : Numbers) → Contains (list_at self.now.booked place) n → InRange n }
+    {
+        self.booked.at(Lane::Management, 0);
+    }
+
     /// How many frames were aired, on all links.
     pub fn aired_count(&self) -> u32
         requires { frame_count self.now.frames < 2 ^ 32 }
@@ -524,6 +539,15 @@ impl End {
         ensures sound { IsEnd self.now }
     {
         self.lanes.at(&lane).start()
+    }
+
+    /// How many bodies a lane's window has stored: at most 256.
+    pub fn held(&self, lane: Lane) -> u16
+        ensures value { result ≡ length (lane_at self.now (lane_index lane)).window.slots }
+        ensures limit { result ≤ 256 }
+        ensures sound { IsEnd self.now }
+    {
+        self.lanes.at(&lane).held()
     }
 
     /// The positions that a lane released, in order.

@@ -6,7 +6,7 @@ ghost use Rattle.wl_window.specs.Originating.{Sending, IsSending, is_done, is_bo
 ghost use Rattle.wl_elem.specs.Lanes.{lane_index};
 ghost use Rattle.wl_replay.specs.Replay.{last_of};
 ghost use Rattle.wl_history.specs.Words.{body_at};
-ghost use Rattle.wl_end.specs.Listening.{heard_of, lane_after, pairs_after};
+ghost use Rattle.wl_end.specs.Listening.{heard_of, HeardFits, lane_after, pairs_after};
 
 use crate::bodies::Bodies;
 use crate::filling::fill;
@@ -170,6 +170,14 @@ impl LaneParts {
         self.reorder.start()
     }
 
+    /// How many numbers are stored.
+    pub fn held(&self) -> u16
+        ensures value { result ≡ length self.now.window.slots }
+        ensures limit { result ≤ 256 }
+    {
+        self.reorder.held()
+    }
+
     /// The stored numbers, in the window's order.
     pub fn stored(&self) -> Numbers12
         ensures { result ≡ stored_numbers self.now.window.slots }
@@ -202,6 +210,7 @@ impl LaneParts {
         requires size_limit { size ≤ 256 }
         requires start { self.old.window.start < 2 ^ 32 - 4096 }
         ensures heard { IfOk result (λ h. h ≡ heard_of (last_of guard.old lane.now) (arrived self.old.window number size arrival)) }
+        ensures fits { IfOk result (HeardFits (length self.old.window.slots + 1)) }
         ensures after { OnOk result (self.new ≡ lane_after (last_of guard.old lane.now) (arrived self.old.window number size arrival) self.old) }
         ensures pairs { OnOk result (guard.new ≡ pairs_after lane.now (arrived self.old.window number size arrival) guard.old) }
         ensures unchanged { OnErr result (self.new ≡ self.old) }

@@ -5,7 +5,7 @@ ghost use Rattle.wl_elem.specs.Lanes.{lane_index, lane_count};
 ghost use Rattle.wl_replay.specs.Replay.{last_of};
 ghost use Rattle.wl_window.specs.Reordering.{arrived};
 ghost use Rattle.wl_window.specs.Originating.{Sending, is_booked, booked_count, reserved, with_booked, acked, sending_after, granted_answer, newly_answer, sending_acked};
-ghost use Rattle.wl_end.specs.Listening.{heard_of, lane_after, pairs_after};
+ghost use Rattle.wl_end.specs.Listening.{heard_of, HeardFits, lane_after, pairs_after};
 
 use crate::hearing::Heard;
 use crate::lane_parts::LaneParts;
@@ -136,6 +136,7 @@ impl Lanes {
         requires size_limit { size ≤ 256 }
         requires start { (lane_of self.old lane.now).window.start < 2 ^ 32 - 4096 }
         ensures heard { IfOk result (λ h. h ≡ heard_of (last_of guard.old lane.now) (arrived (lane_of self.old lane.now).window number size arrival)) }
+        ensures fits { IfOk result (HeardFits (length (lane_of self.old lane.now).window.slots + 1)) }
         ensures after { OnOk result (self.new ≡ with_lane_of self.old lane.now (lane_after (last_of guard.old lane.now) (arrived (lane_of self.old lane.now).window number size arrival) (lane_of self.old lane.now))) }
         ensures pairs { OnOk result (guard.new ≡ pairs_after lane.now (arrived (lane_of self.old lane.now).window number size arrival) guard.old) }
         ensures unchanged { OnErr result (self.new ≡ self.old) }

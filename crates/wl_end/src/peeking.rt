@@ -1,11 +1,12 @@
 //! What is seen of octets that are heard, before anything is kept of them.
 
-ghost use Rattle.std.specs.Prelude.{◌≡◌, ◌↔◌, ◌^◌, ◌<◌, IsTrue, length, IfOk, IfSome};
+ghost use Rattle.std.specs.Prelude.{◌≡◌, ◌↔◌, ◌^◌, ◌<◌, IsTrue, length, IfOk, IfErr, IfSome};
 ghost use Rattle.wl_elem.specs.Lanes.{IsLane};
 ghost use Rattle.wl_frame.specs.Frame.{IsHeader, IsProtection};
 ghost use Rattle.wl_frame.specs.Reading.{value};
 ghost use Rattle.wl_history.specs.Ends.{link_address};
 ghost use Rattle.wl_end.specs.Peeking.{verdict, closed_of, OpenedAs, PeekedAs, PeekFits};
+ghost use Rattle.wl_history.specs.Plain.{IsPlain};
 ghost use Rattle.wl_history.specs.Hearing.{same_octets, is_own_way, judged_frame, judged_kind, judged_protected};
 
 use crate::airing::Under;
@@ -93,6 +94,7 @@ fn keyed(keys: &KeyRing, lane: Lane, frame: &Frame<'_>) -> Result<Payload, Outco
     ensures bound { IfOk result (λ p. p.pn < 2 ^ 48) }
     ensures number { IfOk result (λ p. p.number ≡ frame.now.header.number) }
     ensures lane { IfOk result (λ p. p.lane ≡ lane) }
+    ensures plain { IfErr result IsPlain }
 {
     let Some(p) = &frame.protection else {
         return Err(Outcome::Ignored);
@@ -116,6 +118,7 @@ fn payload_of(keys: &KeyRing, frame: &Frame<'_>) -> Result<Payload, Outcome>
     ensures bound { IfOk result (λ p. p.pn < 2 ^ 48) }
     ensures number { IfOk result (λ p. p.number ≡ frame.now.header.number) }
     ensures lane { IfOk result (λ p. IsLane p.lane) }
+    ensures plain { IfErr result IsPlain }
 {
     match &frame.header.kind {
         Kind::Qos { tid, .. } => keyed(keys, Lane::Tid(*tid), frame),
@@ -137,6 +140,7 @@ fn judge(
     ensures bound { IfOk result (λ p. p.pn < 2 ^ 48) }
     ensures number { IfOk result (λ p. p.number ≡ frame.now.header.number) }
     ensures lane { IfOk result (λ p. IsLane p.lane) }
+    ensures plain { IfErr result IsPlain }
 {
     let header = &frame.header;
     let receiver = start.end;

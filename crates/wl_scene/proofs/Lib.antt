@@ -8,3 +8,5 @@ pub mod Lanes
 pub mod ReportText
 pub mod Readings
 pub mod Maximal
+pub mod Accounts
+pub mod Reported

@@ -15,7 +15,7 @@ use Rattle.wl_history.specs.declared.script.Plain.TheVariants.{Do, Send}
 use Rattle.wl_history.specs.declared.script.Item.{Item}
 use Rattle.wl_history.specs.declared.script.Item.TheVariants.{Once}
 use Rattle.wl_history.specs.declared.start.Start.{Start}
-use Rattle.wl_history.specs.Ends.{is_link, start_of}
+use Rattle.wl_history.specs.Ends.{IsStart, is_link, start_of}
 use Rattle.wl_scene.specs.declared.head.Head.{Head}
 use Rattle.wl_scene.specs.declared.scenario.Scenario.{Scenario}
 use Rattle.wl_scene.specs.declared.fault.SceneFault.{SceneFault}
@@ -118,12 +118,37 @@ has_link head Sta = rw itself refl
 sound_end : (head : Head) (e : EndId) → IsSoundHead head → IsSoundEnd (end_start e head)
 sound_end head e h = record { ap = h.ap; sta = h.sta; different = h.different; key = h.key; one = refl; links = (h.link, tt); associated = refl; window = refl }
 
+-- what each end starts with
+window_is_one : (head : Head) (e : EndId) → (start_of (scene.start_of head) e).window ≡ 1
+window_is_one head Ap = refl
+window_is_one head Sta = refl
+
+pn_is_one : (head : Head) (e : EndId) → (start_of (scene.start_of head) e).first_pn ≡ 1
+pn_is_one head Ap = refl
+pn_is_one head Sta = refl
+
+sound_start : (head : Head) → IsSoundHead head → IsStart (scene.start_of head)
+sound_start head h = record {
+  ap_end = refl;
+  sta_end = refl;
+  ap_same = refl;
+  sta_same = refl;
+  key_same = refl;
+  links_same = refl;
+  ap_six = h.ap;
+  sta_six = h.sta;
+  some_window = λ e. omega (arith, window_is_one head e);
+  window_limit = λ e. omega (arith, window_is_one head e);
+  some_pn = λ e. omega (arith, pn_is_one head e);
+  pn_limit = λ e. omega (arith, pn_is_one head e);
+}
+
 scripted_sound : (head : Head) (ds : Items) (r : Result (List Item) ℕ) (scenario : Scenario) → IsSoundHead head → items_len ds ≤ 65536 → items_of head.link.id ds ≡ r → scripted head r ≡ Ok scenario → IsSound scenario
 scripted_sound head ds (Err number) scenario h few is same = absurd (cc)
 scripted_sound head ds (Ok items) scenario h few is same =
     let all = all_fit (scene.start_of head) head.link.id ds items (has_link head) is in
     let made : record { start = scene.start_of head; before = items } ≡ scenario = cc in
-    subst IsSound made (record { ap = sound_end head Ap h; sta = sound_end head Sta h; ends = (refl, refl); few = omega (arith, all.counted, few); fit = all.fit })
+    subst IsSound made (record { start = sound_start head h; ap = sound_end head Ap h; sta = sound_end head Sta h; ends = (refl, refl); few = omega (arith, all.counted, few); fit = all.fit })
 
 counted_sound : (head : Head) (few : Bool) (ds : Items) (scenario : Scenario) → IsSoundHead head → (few ≡ true → items_len ds ≤ 65536) → (if few then scripted head (items_of head.link.id ds) else Err 0) ≡ Ok scenario → IsSound scenario
 counted_sound head true ds scenario h bound same = scripted_sound head ds (items_of head.link.id ds) scenario h (bound refl) refl same

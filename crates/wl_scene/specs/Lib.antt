@@ -10,3 +10,4 @@ pub mod Sound
 pub mod Report
 pub mod ReportFields
 pub mod Runs
+pub mod Account

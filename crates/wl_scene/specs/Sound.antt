@@ -10,6 +10,7 @@ use Rattle.wl_history.specs.declared.script.Item.TheVariants.{Once}
 use Rattle.wl_history.specs.declared.start.LinkStart.{LinkStart}
 use Rattle.wl_history.specs.declared.start.EndStart.{EndStart}
 use Rattle.wl_history.specs.declared.start.Start.{Start}
+use Rattle.wl_history.specs.Ends.{IsStart}
 use Rattle.wl_history.specs.Legal.{Fits}
 use Rattle.wl_scene.specs.declared.head.Head.{Head}
 use Rattle.wl_scene.specs.declared.scenario.Scenario.{Scenario}
@@ -37,6 +38,8 @@ pub record IsSoundEnd (start : EndStart) : Type 0 where
   pub window : start.window ≡ 1
 
 pub record IsSound (scenario : Scenario) : Type 0 where
+  -- two ends that agree
+  pub start : IsStart scenario.start
   pub ap : IsSoundEnd scenario.start.ap
   pub sta : IsSoundEnd scenario.start.sta
   pub ends : (scenario.start.ap.end ≡ Ap) × (scenario.start.sta.end ≡ Sta)

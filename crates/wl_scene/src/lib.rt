@@ -1,6 +1,7 @@
 //! Scenarios that are read, and the texts of journals and reports.
 #![tactic(auto)]
 
+mod account;
 mod columns;
 mod commands;
 mod fault;
@@ -16,9 +17,10 @@ mod scene;
 mod totals;
 mod write;
 
+pub use account::{end_totals, report_text};
 pub use fault::SceneFault;
 pub use journal::journal_text;
-pub use laws::{read_once, read_or_refused, runs_are_maximal};
+pub use laws::{read_once, read_or_refused, reported_once, runs_are_maximal, totals_are_reported};
 pub use report::report_line;
 pub use scenario::Scenario;
 pub use scene::read_scenario;

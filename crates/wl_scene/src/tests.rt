@@ -1,9 +1,16 @@
+ghost use Rattle.std.specs.Prelude.{◌≡◌, ◌<◌, ◌^◌, IfOk};
+ghost use Rattle.wl_number.specs.Bookings.{booking_count};
+ghost use Rattle.wl_end.specs.Ending.{started};
+ghost use Rattle.wl_end.specs.Parts.{frame_count};
+
 use super::*;
 use std::alloc::Global;
 use std::test::Fail;
 use wl_elem::{Bytes, EndId, Lane, LinkId, LinkSet, Tid, Why};
+use wl_end::End;
 use wl_history::{
-    Command, Item, Journal, KeptWhy, Outcome, Plain, Positions, SequenceNumbers, Step, Steps,
+    Command, EndStart, Item, Journal, KeptWhy, Outcome, Plain, Positions, SequenceNumbers, Step,
+    Steps,
 };
 use wl_number::Numbers;
 
@@ -334,5 +341,51 @@ fn a_report_is_one_line(rt: HostRuntime) -> Result<(), Fail> {
     let sta = totals(alloc, 0, &[0])?;
     let text = report_line(alloc, &ap, &sta, 5)?;
     assert_eq!(rt; text.as_slice(), REPORT.as_bytes());
+    Ok(())
+}
+
+/// An end of the scenario that did nothing yet.
+fn an_end(alloc: Global, start: &EndStart) -> Result<End, Fail>
+    ensures { IfOk result (λ e. e ≡ started start.now) }
+{
+    if start.window != 1 || start.first_pn != 1 {
+        return Err(Fail::from("the scenario starts otherwise"));
+    }
+    match End::new(alloc, start) {
+        Ok(end) => Ok(end),
+        Err(_) => Err(Fail::from("there is memory")),
+    }
+}
+
+/// What the end reports after one body of TID 0 more.
+fn after_a_body(alloc: Global, end: &mut End) -> Result<Totals, Fail>
+    requires frames { frame_count end.old.frames < 2 ^ 32 }
+    requires booked { booking_count end.old.booked < 2 ^ 32 }
+{
+    let tid = tid_0()?;
+    if end.queued(Lane::Tid(tid)) >= 1_000 {
+        return Err(Fail::from("the queue is long"));
+    }
+    let body = Bytes::from_slice(alloc, &[5])?;
+    end.queue(tid, body)?;
+    Ok(end_totals(alloc, end)?)
+}
+
+const QUEUED: &str =
+    "{\"ap\":{\"aired\":0,\"booked\":0,\"emlsr\":0,\"key\":0,\"links\":[0],\"map\":{\"dl\":[1,1,1,1,1,1,1,1],\"ul\":[1,1,1,1,1,1,1,1]},\"newest\":0,\"queued\":{\"0\":1},\"released\":{}},\"sta\":{\"aired\":0,\"booked\":0,\"emlsr\":0,\"key\":0,\"links\":[0],\"map\":{\"dl\":[1,1,1,1,1,1,1,1],\"ul\":[1,1,1,1,1,1,1,1]},\"newest\":0,\"queued\":{},\"released\":{}},\"steps\":1,\"version\":1}\n";
+
+#[test]
+fn ends_report_what_they_queued(rt: HostRuntime) -> Result<(), Fail> {
+    let alloc = rt.alloc();
+    let start = match read_scenario(alloc, TEXT.as_bytes()) {
+        Ok(scenario) => scenario.start,
+        Err(_) => return Err(Fail::from("it is read")),
+    };
+    let mut ap = an_end(alloc, &start.ap)?;
+    let sta = an_end(alloc, &start.sta)?;
+    let ap = after_a_body(alloc, &mut ap)?;
+    let sta = end_totals(alloc, &sta)?;
+    let text = report_line(alloc, &ap, &sta, 1)?;
+    assert_eq!(rt; text.as_slice(), QUEUED.as_bytes());
     Ok(())
 }

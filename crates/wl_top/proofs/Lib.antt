@@ -3,3 +3,6 @@ pub mod Mappings
 pub mod Items
 pub mod Texts
 pub mod Once
+pub mod Simulations
+pub mod Endings
+pub mod OneRun

@@ -3,4 +3,5 @@ pub mod Line
 pub mod TtlmText
 pub mod Shown
 pub mod Decoded
+pub mod Simulated
 pub mod Run

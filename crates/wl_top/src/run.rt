@@ -1,67 +1,27 @@
 //! The top call: what the words ask for, from a source to a sink.
 
-ghost use Rattle.std.specs.Prelude.{◌≡◌, ◌↔◌, ℕ, List, map, IsTrue};
+ghost use Rattle.std.specs.Prelude.{◌≡◌, ◌↔◌, ℕ, List, map, IsTrue, IfSome, IfNone};
 ghost use Rattle.std.specs.String.{string_bytes};
-ghost use Rattle.wl_top.specs.Run.{IsCommand, Ends, IsOutcome, outcome_of};
+ghost use Rattle.wl_frame.specs.Sealing.{Sealing};
+ghost use Rattle.wl_top.specs.declared.run.Task.{Task};
+ghost use Rattle.wl_top.specs.declared.run.Task.TheVariants.{Simulate as IsSimulate};
+ghost use Rattle.wl_top.specs.Run.{DecodeEnds, IsOutcome, IsReadEnding, IsTask, task_word};
+ghost use Rattle.wl_top.specs.Simulated.{IsSafeIf};
 
 use crate::decode::{TextFault, shown_lines};
+use crate::ending::{Ending, Outcome};
+use crate::simulate::{Simulated, simulate};
 use std::alloc::Global;
+use wl_frame::Sealer;
 use wl_io::{ReadFault, Sink, Source, read_all, write_all};
 
-/// How a run of the program ended.
-///
-/// | status | comes | `place` |
-/// |---|---|---|
-/// | 0 done | the input was read to its end, and all was written | 0 |
-/// | 1 usage | exactly where the words are no command | 0 |
-/// | 2 refused | exactly where a line of the input is no hex line; nothing is written | the line's number from 1 |
-/// | 3 read fault | only where the source's count of faults rose; nothing is written | 0 |
-/// | 4 write fault | only where the sink's count of faults rose; the first bytes are written | how many |
-/// | 8 too long | exactly where more than 16,777,216 bytes were read; nothing is written | 16,777,217 |
-/// | 9 memory | at any time before the first byte is written; nothing is written | 0 |
-///
-/// The causes are met in the order 1, 3, 8, 2, 4.
+/// The commands.
 #[derive(Clone, Copy, Debug, PartialEq, Eq)]
-pub struct Outcome {
-    pub status: u8,
-    pub place: u64,
-}
-
-/// The endings that an outcome tells apart.
-#[derive(Clone, Copy, Debug, PartialEq, Eq)]
-pub enum Ending {
-    /// All was done and written.
-    Done,
-    /// The words are no command.
-    Usage,
-    /// The line of this number, counted from 1, is no hex line.
-    Refused(u64),
-    /// A read failed.
-    ReadFault,
-    /// A write failed after so many bytes.
-    WriteFault(u64),
-    /// More bytes came than may be read; so many were read.
-    TooLong(u64),
-    /// There was no memory.
-    Memory,
-}
-
-impl Ending {
-    /// The status and the place that tell it.
-    pub fn outcome(self) -> Outcome
-        ensures { result ≡ outcome_of self }
-    {
-        let (status, place) = match self {
-            Ending::Done => (0, 0),
-            Ending::Usage => (1, 0),
-            Ending::Refused(line) => (2, line),
-            Ending::ReadFault => (3, 0),
-            Ending::WriteFault(taken) => (4, taken),
-            Ending::TooLong(count) => (8, count),
-            Ending::Memory => (9, 0),
-        };
-        Outcome { status, place }
-    }
+pub enum Task {
+    /// `decode`: show hex lines.
+    Decode,
+    /// `run`: do what a scenario asks for.
+    Simulate,
 }
 
 /// Whether a word is this text.
@@ -71,18 +31,45 @@ fn is_word(word: &String, text: &str) -> bool
     word.as_str() == text
 }
 
-/// Whether the words are those of the command `decode`.
-fn is_decode(words: &[String]) -> bool
-    ensures { IsTrue result ↔ IsCommand (map string_bytes words.now) }
+/// The command of a word.
+fn task_named(word: &String) -> Option<Task>
+    ensures some { IfSome result (λ task. string_bytes word.now ≡ task_word task) }
+    ensures none { IfNone result ((task : Task) → string_bytes word.now ≡ task_word task → ⊥) }
+{
+    if is_word(word, "decode") {
+        return Some(Task::Decode);
+    }
+    if is_word(word, "run") {
+        return Some(Task::Simulate);
+    }
+    None
+}
+
+/// The command that the words ask for.
+fn task_of(words: &[String]) -> Option<Task>
+    ensures some { IfSome result (IsTask (map string_bytes words.now)) }
+    ensures none { IfNone result ((task : Task) → IsTask (map string_bytes words.now) task → ⊥) }
 {
     match words {
-        [word] => is_word(word, "decode"),
-        _ => false,
+        [word] => task_named(word),
+        _ => None,
     }
 }
 
+/// The ending of a run whose input wasn't read.
+fn unread(fault: ReadFault) -> Ending
+    ensures { IsReadEnding fault result }
+{
+    match fault {
+        ReadFault::Failed => Ending::ReadFault,
+        ReadFault::TooLong(count) => Ending::TooLong(count),
+        ReadFault::Memory => Ending::Memory,
+    }
+}
+
+/// Shows hex lines.
 fn decode<S: Source, K: Sink>(alloc: Global, source: &mut S, sink: &mut K) -> Ending
-    ensures { (words : List (List ℕ)) → IsCommand words → Ends (record {
+    ensures { (words : List (List ℕ)) (text : Sealing) → DecodeEnds (record {
       words = words;
       left = S.left source.old;
       left' = S.left source.new;
@@ -92,13 +79,12 @@ fn decode<S: Source, K: Sink>(alloc: Global, source: &mut S, sink: &mut K) -> En
       taken' = K.taken sink.new;
       write_faults = K.faults sink.old;
       write_faults' = K.faults sink.new;
+      text = text;
     }) result }
 {
     let input = match read_all(alloc, source) {
         Ok(input) => input,
-        Err(ReadFault::Failed) => return Ending::ReadFault,
-        Err(ReadFault::TooLong(count)) => return Ending::TooLong(count),
-        Err(ReadFault::Memory) => return Ending::Memory,
+        Err(fault) => return unread(fault),
     };
     let text = match shown_lines(alloc, input.as_slice()) {
         Ok(text) => text,
@@ -111,17 +97,62 @@ fn decode<S: Source, K: Sink>(alloc: Global, source: &mut S, sink: &mut K) -> En
     }
 }
 
+/// Does what a scenario asks for.
+fn run<S: Source, K: Sink, Z: Sealer>(
+    alloc: Global,
+    source: &mut S,
+    sink: &mut K,
+    sealer: &Z,
+) -> Outcome
+    ensures outcome { (words : List (List ℕ)) → IsTask words IsSimulate → IsOutcome (record {
+      words = words;
+      left = S.left source.old;
+      left' = S.left source.new;
+      read_faults = S.faults source.old;
+      read_faults' = S.faults source.new;
+      taken = K.taken sink.old;
+      taken' = K.taken sink.new;
+      write_faults = K.faults sink.old;
+      write_faults' = K.faults sink.new;
+      text = Z.text sealer.now;
+    }) result }
+    ensures safe { IsSafeIf (Z.text sealer.now) result.journal }
+{
+    let input = match read_all(alloc, source) {
+        Ok(input) => input,
+        Err(fault) => return unread(fault).outcome(None),
+    };
+    match simulate(alloc, input.as_slice(), sealer) {
+        Simulated::Refused(place) => Ending::Refused(place).outcome(None),
+        Simulated::Halted(journal) => Ending::Memory.outcome(journal),
+        Simulated::Ran {
+            ending,
+            journal,
+            out,
+        } => match write_all(sink, out.as_slice()) {
+            Ok(()) => ending.outcome(Some(journal)),
+            Err(fault) => Ending::WriteFault(fault.taken).outcome(Some(journal)),
+        },
+    }
+}
+
 /// Does what the words ask for: reads the source to its end, and writes to the sink.
 ///
-/// `decode` reads hex lines and writes one shown text a line. Nothing is written before the whole
-/// input was read and shown. See [`Outcome`] for how a run ends, and when.
-pub fn mld_run<S: Source, K: Sink>(
+/// - `decode` reads hex lines and writes one shown text a line.
+/// - `run` reads a scenario, and writes the journal of all steps and then the report. What is written
+///   is the text of the one legal history that the scenario's commands make with this sealer, up to
+///   the first frame that opens and was never booked; that history is safe.
+///
+/// Nothing is written before the whole input was read and the whole text made. See [`Outcome`] for how
+/// a run ends, and when.
+pub fn mld_run<S: Source, K: Sink, Z: Sealer>(
     alloc: Global,
     words: &[String],
     source: &mut S,
     sink: &mut K,
+    sealer: &Z,
 ) -> Outcome
-    ensures { IsOutcome (record {
+    ensures outcome { IsOutcome (record {
       words = map string_bytes words.now;
       left = S.left source.old;
       left' = S.left source.new;
@@ -131,10 +162,13 @@ pub fn mld_run<S: Source, K: Sink>(
       taken' = K.taken sink.new;
       write_faults = K.faults sink.old;
       write_faults' = K.faults sink.new;
+      text = Z.text sealer.now;
     }) result }
+    ensures safe { IsSafeIf (Z.text sealer.now) result.journal }
 {
-    if is_decode(words) {
-        return decode(alloc, source, sink).outcome();
+    match task_of(words) {
+        Some(Task::Decode) => decode(alloc, source, sink).outcome(None),
+        Some(Task::Simulate) => run(alloc, source, sink, sealer),
+        None => Ending::Usage.outcome(None),
     }
-    Ending::Usage.outcome()
 }

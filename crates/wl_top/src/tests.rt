@@ -2,6 +2,7 @@ use super::*;
 use std::alloc::Global;
 use std::test::Fail;
 use wl_elem::Bytes;
+use wl_frame::StandIn;
 use wl_io::{Calls, MemSink, MemSource};
 
 /// What a run over memory answers: its outcome, and what the sink took.
@@ -37,7 +38,7 @@ fn run_failing(
     }
     let mut source = MemSource::new(Bytes::from_slice(alloc, input)?, reads, 10);
     let mut sink = MemSink::new(alloc, writes, 10);
-    let outcome = mld_run(alloc, given.as_slice(), &mut source, &mut sink);
+    let outcome = mld_run(alloc, given.as_slice(), &mut source, &mut sink, &StandIn);
     let taken = Vec::from_slice(alloc, sink.taken())?;
     let written = String::from_utf8(taken).ok().ok_or("the text is ASCII")?;
     Ok(Ran { outcome, written })
@@ -268,9 +269,162 @@ fn an_input_above_the_limit_is_too_long(rt: HostRuntime) -> Result<(), Fail> {
     let bytes = Bytes::from_vec(vec![in alloc; b'0'; 16_777_217]?);
     let mut source = MemSource::new(bytes, Calls::new(alloc), 65_536);
     let mut sink = MemSink::new(alloc, Calls::new(alloc), 65_536);
-    let outcome = mld_run(alloc, words.as_slice(), &mut source, &mut sink);
+    let outcome = mld_run(alloc, words.as_slice(), &mut source, &mut sink, &StandIn);
     assert_eq!(rt; outcome.status, 8);
     assert_eq!(rt; outcome.place, 16_777_217);
     assert_eq!(rt; sink.taken().len(), 0);
+    Ok(())
+}
+
+const HEAD: &str =
+    "{\"version\":1,\"ap\":\"020000000001\",\"sta\":\"020000000002\",\"key\":\"000102030405060708090a0b0c0d0e0f\",\"links\":[{\"id\":0,\"ap\":\"020000000010\",\"sta\":\"020000000020\"}],\"window\":1,\"before\":[";
+
+/// A scenario over link 0 with these commands.
+fn scenario(alloc: Global, commands: &[&str]) -> Result<String, Fail> {
+    let mut text = String::from_str(alloc, HEAD)?;
+    for (i, command) in commands.iter().enumerate() {
+        if i > 0 {
+            text.push_str(",")?;
+        }
+        text.push_str(command)?;
+    }
+    text.push_str("]}")?;
+    Ok(text)
+}
+
+/// Lines, each with its end.
+fn lines(alloc: Global, lines: &[&str]) -> Result<String, Fail> {
+    let mut text = String::new(alloc);
+    for line in lines {
+        text.push_str(line)?;
+        text.push_str("\n")?;
+    }
+    Ok(text)
+}
+
+fn simulate(alloc: Global, input: &[u8]) -> Result<Ran, Fail> {
+    run_failing(alloc, &["run"], input, none(alloc), none(alloc))
+}
+
+const QUEUE: &str = "{\"do\":\"queue\",\"end\":\"ap\",\"tid\":0,\"body\":\"00\"}";
+
+const SEND: &str = "{\"do\":\"send\",\"end\":\"ap\",\"link\":0,\"lane\":0}";
+
+const FIRST: &str = "{\"do\":\"deliver\",\"end\":\"sta\",\"link\":0,\"nth\":0}";
+
+const LATEST: &str = "{\"do\":\"deliver\",\"end\":\"sta\",\"link\":0}";
+
+const ACK_OUT: &str = "{\"do\":\"ack_out\",\"end\":\"sta\",\"lane\":0}";
+
+const ACK_IN: &str = "{\"do\":\"ack_in\",\"end\":\"ap\"}";
+
+const FIRST_ACK: &str = "{\"do\":\"ack_in\",\"end\":\"ap\",\"nth\":0}";
+
+const ONE_BODY: [&str; 6] = [
+    "{\"do\":\"queue\",\"end\":\"ap\",\"out\":\"queued\",\"pos\":0,\"size\":1,\"t\":0,\"tid\":0}",
+    "{\"do\":\"reserve\",\"end\":\"ap\",\"lane\":0,\"out\":\"reserved\",\"t\":0}",
+    "{\"do\":\"book\",\"end\":\"ap\",\"key\":0,\"lane\":0,\"out\":\"booked\",\"pn\":1,\"pos\":0,\"t\":0}",
+    "{\"do\":\"put\",\"end\":\"ap\",\"key\":0,\"lane\":0,\"link\":0,\"out\":\"put\",\"pn\":1,\"pos\":0,\"retry\":false,\"t\":0}",
+    "{\"do\":\"deliver\",\"end\":\"sta\",\"lane\":0,\"link\":0,\"nth\":0,\"number\":0,\"out\":\"stored\",\"t\":0,\"up\":[0]}",
+    "{\"ap\":{\"aired\":1,\"booked\":1,\"emlsr\":0,\"key\":0,\"links\":[0],\"map\":{\"dl\":[1,1,1,1,1,1,1,1],\"ul\":[1,1,1,1,1,1,1,1]},\"newest\":0,\"queued\":{\"0\":1},\"released\":{}},\"sta\":{\"aired\":0,\"booked\":0,\"emlsr\":0,\"key\":0,\"links\":[0],\"map\":{\"dl\":[1,1,1,1,1,1,1,1],\"ul\":[1,1,1,1,1,1,1,1]},\"newest\":0,\"queued\":{},\"released\":{\"0\":[[0,0]]}},\"steps\":5,\"version\":1}",
+];
+
+#[test]
+fn a_scenario_gives_its_journal_and_report(rt: HostRuntime) -> Result<(), Fail> {
+    let alloc = rt.alloc();
+    let ran = simulate(alloc, scenario(alloc, &[QUEUE, SEND, FIRST])?.as_bytes())?;
+    assert_eq!(rt; ran.outcome.status, 0);
+    assert_eq!(rt; ran.outcome.place, 0);
+    assert_eq!(rt; ran.written.as_str(), lines(alloc, &ONE_BODY)?.as_str());
+    let journal = ran.outcome.journal.as_ref().ok_or("a run has a journal")?;
+    assert_eq!(rt; journal.steps.as_slice().len(), 5);
+    Ok(())
+}
+
+const FULL_WINDOW: [&str; 16] = [
+    "{\"do\":\"queue\",\"end\":\"ap\",\"out\":\"queued\",\"pos\":0,\"size\":1,\"t\":0,\"tid\":0}",
+    "{\"do\":\"queue\",\"end\":\"ap\",\"out\":\"queued\",\"pos\":1,\"size\":1,\"t\":0,\"tid\":0}",
+    "{\"do\":\"reserve\",\"end\":\"ap\",\"lane\":0,\"out\":\"reserved\",\"t\":0}",
+    "{\"do\":\"book\",\"end\":\"ap\",\"key\":0,\"lane\":0,\"out\":\"booked\",\"pn\":1,\"pos\":0,\"t\":0}",
+    "{\"do\":\"put\",\"end\":\"ap\",\"key\":0,\"lane\":0,\"link\":0,\"out\":\"put\",\"pn\":1,\"pos\":0,\"retry\":false,\"t\":0}",
+    "{\"do\":\"reserve\",\"end\":\"ap\",\"lane\":0,\"out\":\"windowfull\",\"t\":0}",
+    "{\"do\":\"deliver\",\"end\":\"sta\",\"lane\":0,\"link\":0,\"nth\":null,\"number\":0,\"out\":\"stored\",\"t\":0,\"up\":[0]}",
+    "{\"do\":\"ack_out\",\"end\":\"sta\",\"lane\":0,\"out\":\"acked\",\"start\":1,\"stored\":[],\"t\":0}",
+    "{\"count\":1,\"do\":\"ack_in\",\"end\":\"ap\",\"nth\":null,\"out\":\"done\",\"t\":0}",
+    "{\"do\":\"reserve\",\"end\":\"ap\",\"lane\":0,\"out\":\"reserved\",\"t\":0}",
+    "{\"do\":\"book\",\"end\":\"ap\",\"key\":0,\"lane\":0,\"out\":\"booked\",\"pn\":2,\"pos\":1,\"t\":0}",
+    "{\"do\":\"put\",\"end\":\"ap\",\"key\":0,\"lane\":0,\"link\":0,\"out\":\"put\",\"pn\":2,\"pos\":1,\"retry\":false,\"t\":0}",
+    "{\"do\":\"deliver\",\"end\":\"sta\",\"lane\":0,\"link\":0,\"nth\":null,\"number\":1,\"out\":\"stored\",\"t\":0,\"up\":[1]}",
+    "{\"do\":\"deliver\",\"end\":\"sta\",\"link\":0,\"nth\":0,\"out\":\"replay\",\"t\":0}",
+    "{\"count\":0,\"do\":\"ack_in\",\"end\":\"ap\",\"nth\":0,\"out\":\"done\",\"t\":0}",
+    "{\"ap\":{\"aired\":2,\"booked\":2,\"emlsr\":0,\"key\":0,\"links\":[0],\"map\":{\"dl\":[1,1,1,1,1,1,1,1],\"ul\":[1,1,1,1,1,1,1,1]},\"newest\":0,\"queued\":{\"0\":2},\"released\":{}},\"sta\":{\"aired\":0,\"booked\":0,\"emlsr\":0,\"key\":0,\"links\":[0],\"map\":{\"dl\":[1,1,1,1,1,1,1,1],\"ul\":[1,1,1,1,1,1,1,1]},\"newest\":0,\"queued\":{},\"released\":{\"0\":[[0,1]]}},\"steps\":15,\"version\":1}",
+];
+
+#[test]
+fn a_window_of_one_waits_for_its_ack(rt: HostRuntime) -> Result<(), Fail> {
+    let alloc = rt.alloc();
+    let commands = [
+        QUEUE, QUEUE, SEND, SEND, LATEST, ACK_OUT, ACK_IN, SEND, LATEST, FIRST, FIRST_ACK,
+    ];
+    let ran = simulate(alloc, scenario(alloc, &commands)?.as_bytes())?;
+    assert_eq!(rt; ran.outcome.status, 0);
+    assert_eq!(rt; ran.written.as_str(), lines(alloc, &FULL_WINDOW)?.as_str());
+    Ok(())
+}
+
+/// Both ends have one address.
+const ONE_ADDRESS: &str =
+    "{\"version\":1,\"ap\":\"020000000001\",\"sta\":\"020000000001\",\"key\":\"000102030405060708090a0b0c0d0e0f\",\"links\":[{\"id\":0,\"ap\":\"020000000010\",\"sta\":\"020000000020\"}],\"window\":1,\"before\":[]}";
+
+#[test]
+fn what_is_no_scenario_is_refused_at_its_place(rt: HostRuntime) -> Result<(), Fail> {
+    let alloc = rt.alloc();
+    let unbuilt = "{\"do\":\"turn\",\"end\":\"ap\"}";
+    let ninth = "{\"do\":\"queue\",\"end\":\"ap\",\"tid\":8,\"body\":\"00\"}";
+    let texts = [
+        (String::from_str(alloc, "{")?, 0),
+        (String::new(alloc), 0),
+        (String::from_str(alloc, ONE_ADDRESS)?, 0),
+        (scenario(alloc, &[ninth])?, 1),
+        (scenario(alloc, &[QUEUE, unbuilt, ninth])?, 2),
+    ];
+    for (text, place) in texts.iter() {
+        let ran = simulate(alloc, text.as_bytes())?;
+        assert_eq!(rt; ran.outcome.status, 2);
+        assert_eq!(rt; ran.outcome.place, *place);
+        assert_eq!(rt; ran.written.as_str(), "");
+        assert!(rt; ran.outcome.journal.is_none());
+    }
+    Ok(())
+}
+
+#[test]
+fn failing_reads_and_writes_end_a_scenario(rt: HostRuntime) -> Result<(), Fail> {
+    let alloc = rt.alloc();
+    let text = scenario(alloc, &[QUEUE])?;
+    let unread = run_failing(
+        alloc,
+        &["run"],
+        text.as_bytes(),
+        only(alloc, 3)?,
+        none(alloc),
+    )?;
+    assert_eq!(rt; unread.outcome.status, 3);
+    assert_eq!(rt; unread.written.as_str(), "");
+    assert!(rt; unread.outcome.journal.is_none());
+    let cut = run_failing(
+        alloc,
+        &["run"],
+        text.as_bytes(),
+        none(alloc),
+        only(alloc, 4)?,
+    )?;
+    assert_eq!(rt; cut.outcome.status, 4);
+    assert_eq!(rt; cut.outcome.place, 40);
+    assert_eq!(rt;
+        cut.written.as_str(),
+        "{\"do\":\"queue\",\"end\":\"ap\",\"out\":\"queued\","
+    );
+    assert!(rt; cut.outcome.journal.is_some());
     Ok(())
 }

@@ -1,10 +1,39 @@
-use Rattle.std.proofs.Common.{refl, map}
+use Rattle.std.proofs.Common.{None, refl, map}
 use Rattle.std.specs.String.{string_bytes}
-use Rattle.wl_top.specs.declared.run.Ending.TheVariants.{Usage}
+use Rattle.wl_top.specs.declared.ending.Ending.TheVariants.{Usage}
+use Rattle.wl_top.specs.Run.{Call}
+use Rattle.wl_top.proofs.Endings.{told_by, decoded}
 use Rattle.wl_top.proofs.run.mld_run.Goals as goal
 
-pub returns-then-is_decode : goal.returns-then-is_decode
-returns-then-is_decode g c = (c.decode.result, c.decode.ensures (map string_bytes c.args.words.now) (c.is_decode.ensures.0 c.if-is_decode.true), c.outcome.ensures)
+pub returns-in-Some-Decode-clause-outcome : goal.returns-in-Some-Decode-clause-outcome
+returns-in-Some-Decode-clause-outcome g c =
+    let call : Call = (record {
+      words = map string_bytes c.args.words.now;
+      left = g.S.Source.left c.args.source.now;
+      left' = g.S.Source.left c.decode.new.source;
+      read_faults = g.S.Source.faults c.args.source.now;
+      read_faults' = g.S.Source.faults c.decode.new.source;
+      taken = g.K.Sink.taken c.args.sink.now;
+      taken' = g.K.Sink.taken c.decode.new.sink;
+      write_faults = g.K.Sink.faults c.args.sink.now;
+      write_faults' = g.K.Sink.faults c.decode.new.sink;
+      text = g.Z.Sealer.text c.args.sealer.now;
+    }) in
+    let task = rw c.in-Some-Decode.field-0-is at c.in-Some-Decode.ensures.some in
+    told_by call c.decode.result None c.outcome.result c.outcome.ensures (decoded call c.decode.result task (c.decode.ensures (map string_bytes c.args.words.now) (g.Z.Sealer.text c.args.sealer.now)))
 
-pub returns : goal.returns
-returns g c = (Usage, ((λ e. absurd (cc (c.is_decode.ensures.1 e, c.if-is_decode.false))), (refl, refl)), c.outcome-2.ensures)
+pub returns-in-None-clause-outcome : goal.returns-in-None-clause-outcome
+returns-in-None-clause-outcome g c =
+    let call : Call = (record {
+      words = map string_bytes c.args.words.now;
+      left = g.S.Source.left c.args.source.now;
+      left' = g.S.Source.left c.args.source.now;
+      read_faults = g.S.Source.faults c.args.source.now;
+      read_faults' = g.S.Source.faults c.args.source.now;
+      taken = g.K.Sink.taken c.args.sink.now;
+      taken' = g.K.Sink.taken c.args.sink.now;
+      write_faults = g.K.Sink.faults c.args.sink.now;
+      write_faults' = g.K.Sink.faults c.args.sink.now;
+      text = g.Z.Sealer.text c.args.sealer.now;
+    }) in
+    told_by call Usage None c.outcome-in-None.result c.outcome-in-None.ensures (c.in-None.ensures.none, (refl, refl), refl)

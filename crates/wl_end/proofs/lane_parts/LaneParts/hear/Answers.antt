@@ -1,7 +1,9 @@
-use Rattle.std.proofs.Common.{◌≤◌, ◌<◌, ◌+◌, ◌-◌, ◌^◌, length, sym, ap, subst, ◌∙◌, arith}
+use Rattle.std.proofs.Common.{ℕ, List, ◌++◌, ◌≤◌, ◌<◌, ◌+◌, ◌-◌, ◌^◌, length, sym, ap, subst, ◌∙◌, arith}
 use Rattle.wl_window.specs.Queue.{Queue}
 use Rattle.wl_history.specs.declared.arrival.Arrival.{Arrival}
-use Rattle.wl_history.specs.EndState.{LaneState}
+use Rattle.wl_replay.specs.Replay.{last_of}
+use Rattle.wl_history.specs.EndState.{LaneState, let_up}
+use Rattle.wl_end.proofs.Releasing.{let_up_few}
 use Rattle.wl_end.proofs.Rising.{ups_fit}
 use Rattle.wl_end.proofs.lane_parts.LaneParts.hear.Goals as goal
 use Rattle.wl_end.proofs.lane_parts.LaneParts.hear.Goals.{After-arrive, In-Ok}
@@ -19,3 +21,10 @@ release-requires-clause-room c = omega (arith, rises (goal.at.release-requires-c
 
 pub release-requires-clause-up_room : goal.release-requires-clause-up_room
 release-requires-clause-up_room c = omega (arith, rises (goal.at.release-requires-clause-up_room c).In-Ok, c.in_ok-up.ensures.len, c.in_ok-up.ensures.exact, c.from.ensures)
+
+pub returns-clause-fits : goal.returns-clause-fits
+returns-clause-fits c =
+    let all = goal.at.returns-clause-fits c in
+    let few = let_up_few (last_of c.args.guard.now c.args.lane.now) c.arrive.new.up.items in
+    let up = ap (λ (l : List ℕ). length l) (c.from_vec.ensures ∙ c.release.ensures.up ∙ ap (λ (l : List ℕ). l ++ (let_up (last_of c.args.guard.now c.args.lane.now) c.arrive.new.up.items).positions) c.in_ok-up.ensures.items) in
+    omega (arith, few, rises all.In-Ok, up, c.held-most.ensures.value, ap (λ (l : LaneState). length l.window.slots) c.self.view_is)

@@ -1,0 +1,69 @@
+-- What an end reports: of its state, and in the words of a history.
+use Rattle.std.specs.Prelude.{◌≡◌, ℕ, zero, suc, ◌+◌, ◌<◌, ◌^◌, List, [], ◌∷◌, length}
+use Rattle.wl_elem.specs.declared.lane.EndId.{EndId}
+use Rattle.wl_elem.specs.declared.lane.EndId.TheVariants.{Ap, Sta}
+use Rattle.wl_elem.specs.Links.{has_link}
+use Rattle.wl_number.specs.Bookings.{booking_count}
+use Rattle.wl_history.specs.declared.start.Start.{Start}
+use Rattle.wl_history.specs.declared.step.Step.{Step}
+use Rattle.wl_history.specs.EndState.{EndState, lane_at}
+use Rattle.wl_history.specs.Ends.{start_of, is_set_up}
+use Rattle.wl_history.specs.Stands.{positions_of}
+use Rattle.wl_history.specs.Words as words
+use Rattle.wl_end.specs.Parts.{frame_count}
+use Rattle.wl_scene.specs.declared.totals.Totals.{Totals}
+use Rattle.wl_scene.specs.Report.{report_text}
+
+-- what stands at each of the nine lanes' places, in order
+abbrev pub per_lane : {A : Type 0} → (ℕ → A) → List A
+per_lane f = f 0 ∷ f 1 ∷ f 2 ∷ f 3 ∷ f 4 ∷ f 5 ∷ f 6 ∷ f 7 ∷ f 8 ∷ []
+
+-- the default mapping: each of the eight TIDs goes over each link that is set up (IEEE Std 802.11be,
+-- 35.3)
+abbrev pub on_all : ℕ → List ℕ
+on_all links = links ∷ links ∷ links ∷ links ∷ links ∷ links ∷ links ∷ links ∷ []
+
+-- the sum of a function's values at the numbers below this one
+abbrev pub sum_below : ℕ → (ℕ → ℕ) → ℕ
+sum_below zero f = 0
+sum_below (suc n) f = f 0 + sum_below n (λ k. f (suc k))
+
+-- an end in this state reports this
+pub record IsTotals (s : EndState) (t : Totals) : Type 0 where
+  pub aired : t.aired ≡ frame_count s.frames
+  pub booked : t.booked ≡ booking_count s.booked
+  -- no EMLSR mode is in force
+  pub emlsr : t.emlsr ≡ 0
+  pub key : t.key ≡ s.numbers.key
+  pub links : (k : ℕ) → k < 15 → has_link t.links k ≡ is_set_up s.start k
+  pub few_links : t.links < 2 ^ 15
+  pub dl : t.dl ≡ on_all t.links
+  pub ul : t.ul ≡ on_all t.links
+  pub newest : t.newest ≡ s.newest
+  pub queued : t.queued ≡ per_lane (λ l. length (lane_at s l).queue)
+  pub released : t.released ≡ per_lane (λ l. (lane_at s l).released)
+
+-- An end of a history reports this: the frames that it put on the links, its bookings, the key that it
+-- sends under, the links set up and the mapping on them, the newest key that it holds, and by lane how
+-- many bodies it queued and the positions of its peer's queues that it released.
+pub record Reports (start : Start) (e : EndId) (steps : List Step) (t : Totals) : Type 0 where
+  pub aired : t.aired ≡ sum_below 15 (λ link. length (words.airings_on link (words.airings e steps)))
+  pub booked : t.booked ≡ booking_count (words.booked e steps)
+  -- no EMLSR mode is in force
+  pub emlsr : t.emlsr ≡ 0
+  pub key : t.key ≡ (words.numbers (start_of start e) e steps).key
+  pub links : (k : ℕ) → k < 15 → has_link t.links k ≡ is_set_up (start_of start e) k
+  pub few_links : t.links < 2 ^ 15
+  pub dl : t.dl ≡ on_all t.links
+  pub ul : t.ul ≡ on_all t.links
+  pub newest : t.newest ≡ (start_of start e).newest
+  pub queued : t.queued ≡ per_lane (λ l. length (words.queued e l steps))
+  pub released : t.released ≡ per_lane (λ l. positions_of (words.receiving (start_of start e) e l steps).released)
+
+-- the text of what both ends report after these steps
+pub record IsReport (start : Start) (steps : List Step) (text : List ℕ) : Type 0 where
+  pub ap : Totals
+  pub sta : Totals
+  pub ap_reports : Reports start Ap steps ap
+  pub sta_reports : Reports start Sta steps sta
+  pub text_is : text ≡ report_text ap sta (length steps)

@@ -1,0 +1,70 @@
+-- What `run` makes of a scenario: its history and the two texts of it.
+use Rattle.std.specs.Prelude.{◌≡◌, ℕ, ◌⊎◌, List, [], ◌++◌, length, Option, Some, None, Ok, Err}
+use Rattle.wl_frame.specs.Sealing.{Sealing}
+use Rattle.wl_history.specs.declared.opened.Opened.{Opened}
+use Rattle.wl_history.specs.declared.start.Start.{Start}
+use Rattle.wl_history.specs.declared.step.Journal.{Journal}
+use Rattle.wl_history.specs.declared.step.Step.{Step}
+use Rattle.wl_history.specs.Legal.{Legal}
+use Rattle.wl_history.specs.Runs.{Plays, Stops}
+use Rattle.wl_history.specs.Safe.{Safe}
+use Rattle.wl_air.specs.Playing.{Reaches}
+use Rattle.wl_scene.specs.declared.scenario.Scenario.{Scenario}
+use Rattle.wl_scene.specs.Account.{IsReport}
+use Rattle.wl_scene.specs.Lines.{journal_lines}
+use Rattle.wl_scene.specs.Scene.{SceneOf}
+use Rattle.wl_top.specs.declared.ending.Ending.{Ending}
+use Rattle.wl_top.specs.declared.ending.Ending.TheVariants.{Done, Forged}
+use Rattle.wl_top.specs.declared.simulate.Simulated.{Simulated}
+use Rattle.wl_top.specs.declared.simulate.Simulated.TheVariants as simulated
+
+-- The commands of the scenario leave these steps, or the next command after these steps is forged,
+-- which are so many.
+abbrev pub HasRun : Sealing → Scenario → Ending → List Step → Type 0
+HasRun text scene Done steps = Plays text scene.start scene.before [] steps
+HasRun text scene (Forged count) steps = (opened : Opened) × Stops text scene.start scene.before [] steps opened × (count ≡ length steps)
+HasRun text scene other steps = ⊥
+
+-- the journal's text, then the report's
+pub record IsOutput (start : Start) (steps : List Step) (out : List ℕ) : Type 0 where
+  pub report : List ℕ
+  pub is_report : IsReport start steps report
+  pub out_is : out ≡ journal_lines steps ++ report
+
+-- the journal has the steps of a run of the scenario that was read from this input, whole or broken off
+pub record IsHalf (text : Sealing) (input : List ℕ) (journal : Journal) : Type 0 where
+  pub scene : Scenario
+  pub is_scene : SceneOf input (Ok scene)
+  pub start_is : journal.start ≡ scene.start
+  pub come : ((ending : Ending) × HasRun text scene ending journal.steps) ⊎ Reaches text scene.start scene.before [] journal.steps
+
+abbrev pub IsHalfIf : Sealing → List ℕ → Option Journal → Type 0
+IsHalfIf text input None = Unit {0}
+IsHalfIf text input (Some journal) = IsHalf text input journal
+
+-- the history of the scenario that was read from this input, and its texts
+pub record IsWhole (text : Sealing) (input : List ℕ) (ending : Ending) (journal : Journal) (out : List ℕ) : Type 0 where
+  pub scene : Scenario
+  pub is_scene : SceneOf input (Ok scene)
+  pub start_is : journal.start ≡ scene.start
+  pub has_run : HasRun text scene ending journal.steps
+  pub is_output : IsOutput scene.start journal.steps out
+
+abbrev pub IsSimulated : Sealing → List ℕ → Simulated → Type 0
+IsSimulated text input (simulated.Refused place) = SceneOf input (Err place)
+IsSimulated text input (simulated.Halted journal) = IsHalfIf text input journal
+IsSimulated text input (simulated.Ran ending journal out) = IsWhole text input ending journal out
+
+-- the journal is a legal history, and safe
+pub record IsSafe (text : Sealing) (journal : Journal) : Type 0 where
+  pub legal : Legal text journal.start journal.steps
+  pub safe : Safe text journal.start journal.steps
+
+abbrev pub IsSafeIf : Sealing → Option Journal → Type 0
+IsSafeIf text None = Unit {0}
+IsSafeIf text (Some journal) = IsSafe text journal
+
+abbrev pub SimulatedSafe : Sealing → Simulated → Type 0
+SimulatedSafe text (simulated.Refused place) = Unit {0}
+SimulatedSafe text (simulated.Halted journal) = IsSafeIf text journal
+SimulatedSafe text (simulated.Ran ending journal out) = IsSafe text journal

@@ -1,0 +1,12 @@
+use Rattle.std.proofs.Common.{◌≡◌, take, drop}
+use Rattle.std.specs.Prelude.{map}
+use Rattle.wl_mle.specs.Layout.{profile_slots}
+use Rattle.wl_mle.specs.MultiLink.{subs_refusal}
+use Rattle.wl_mle.specs.Reading.{basic_sub_at}
+use Rattle.wl_mle.proofs.decode.read_basic_subs.Given as goal
+
+abbrev pub invariant-subs : goal.invariant-subs
+invariant-subs l = record {
+  so_far : subs_refusal profile_slots l.i (drop l.i l.list) ≡ subs_refusal profile_slots 0 l.list;
+  made : l.subs ≡ map basic_sub_at (take l.i l.list);
+}

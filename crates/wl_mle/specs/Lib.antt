@@ -1,0 +1,8 @@
+pub mod Fields
+pub mod Subelements
+pub mod Layout
+pub mod MultiLink
+pub mod Reading
+pub mod Stops
+pub mod Writing
+pub mod Fitting

@@ -1,0 +1,28 @@
+//! The Multi-Link element.
+#![tactic(auto)]
+
+mod basic;
+mod change;
+mod cut;
+mod decode;
+mod encode;
+mod fields;
+mod fitting;
+mod laws;
+mod multi_link;
+mod profile;
+mod reconf;
+mod stop;
+mod subelement;
+
+pub use basic::{Basic, BasicSub, BasicSubs, Common};
+pub use change::LinkChange;
+pub use decode::decode_ml;
+pub use encode::encode_ml;
+pub use laws::{read_once, read_or_refused, round_trip, spelled_once};
+pub use multi_link::MultiLink;
+pub use profile::Profile;
+pub use reconf::{Reconf, ReconfSub, ReconfSubs};
+
+#[cfg(test)]
+mod tests;

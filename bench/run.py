@@ -1,8 +1,13 @@
 #!/usr/bin/env python3
-"""Measures the built program beside a yardstick, and prints two tables.
+"""Measures the built program beside a yardstick, and prints tables.
 
 `decode`: each input has 16 MiB of hex lines. The yardstick turns the same digits into octets:
 `xxd -r -p`, or a loop over `bytes.fromhex` where xxd is missing.
+
+Beacons: 100,000 lines, each a Multi-Link element with two profiles and a mapping element. Where
+tshark is installed, it shows the same elements in 100,000 Beacon frames of a capture file.
+
+Mixed: 100,000 lines of all kinds, by `decode` and by `check`, in lines a second.
 
 `run`: scenarios in which the AP queues, sends, and is acknowledged body by body, in rounds of five
 commands and seven steps. The yardstick is Python: reading the scenario and writing it again with
@@ -28,6 +33,8 @@ SIZE = 16 * 1024 * 1024
 GOAL_RATIO = 4.0
 GOAL_MEMORY_MB = 1000
 GOAL_GROWTH = 1.5
+GOAL_BEACON_US = 2.0
+BEACONS = 100_000
 
 PYTHON_YARDSTICK = """
 import sys
@@ -73,6 +80,42 @@ def inputs():
     mixed = mixed_list().hex().encode() + b"\n"
     yield "the default mapping, 4 octets a line", small
     yield f"mixed elements, {len(mixed_list())} octets a line", mixed
+
+
+def beacon_list():
+    """A Basic Multi-Link element with two profiles, and a mapping element, as an AP's beacon has them."""
+    common = bytes.fromhex("0c 020000000001 00 03 0000 6000")
+    common = bytes([len(common)]) + common[1:]
+    profiles = b""
+    for link in (1, 2):
+        control = link | 0x0020 | 0x0040 | 0x0080 | 0x0100 | 0x0800
+        address = bytes([2, 0, 0, 0, 0, 0x10 + link])
+        info = address + (100).to_bytes(2, "little") + (40 * link).to_bytes(8, "little") + b"\x01\x03\x05"
+        body = control.to_bytes(2, "little") + bytes([1 + len(info)]) + info + b"\x11\x04"
+        profiles += element(0, body)
+    multi_link = element(255, (0x01B0).to_bytes(2, "little") + common + profiles, 107)
+    return multi_link + element(255, bytes.fromhex("06"), 109)
+
+
+def beacon_capture():
+    """A capture file of so many Beacon frames with these elements."""
+    frame = bytes.fromhex("80000000ffffffffffff0200000000100200000000100000") + bytes(8)
+    frame += bytes.fromhex("64001104") + element(0, b"abc") + beacon_list()
+    record = bytes(8) + len(frame).to_bytes(4, "little") * 2 + frame
+    head = bytes.fromhex("d4c3b2a1020004000000000000000000") + (1 << 18).to_bytes(4, "little")
+    return head + (105).to_bytes(4, "little") + record * BEACONS
+
+
+def mixed_kinds():
+    """Lines of each kind, from the examples: those that are accepted, without the beacon's."""
+    lines = []
+    for name in ("elements", "actions", "association", "frames"):
+        with open(os.path.join(ROOT, "examples", f"{name}.hex"), encoding="ascii") as file:
+            given = file.read().split("\n")[:-1]
+        with open(os.path.join(ROOT, "examples", f"{name}.verdicts"), encoding="ascii") as file:
+            verdicts = file.read().split("\n")[:-1]
+        lines += [line for line, verdict in zip(given, verdicts) if line and verdict.startswith("ok")]
+    return lines
 
 
 def scenario(commands, octets):
@@ -149,6 +192,45 @@ def decode_table(folder, program, yardstick, name, runs, missed):
         note_missed(label, ratio, memory, missed)
 
 
+def beacon_table(folder, program, yardstick, name, runs, missed):
+    line = beacon_list().hex().encode() + b"\n"
+    path = os.path.join(folder, "beacons.hex")
+    with open(path, "wb") as file:
+        file.write(line * BEACONS)
+    ours, memory = measure([program, "decode"], path, runs)
+    theirs, _ = measure(yardstick, path, runs)
+    print(f"| {BEACONS:,} beacons of {len(line) // 2} octets | time | a line | the program's ratio to it |")
+    print("|---|---|---|---|")
+    per_line = ours / BEACONS * 1e6
+    print(f"| mld decode ({memory:.0f} MB) | {ours:.2f} s | {per_line:.2f} us | |")
+    print(f"| {name} | {theirs:.2f} s | {theirs / BEACONS * 1e6:.2f} us | {ours / theirs:.1f} |")
+    if per_line > GOAL_BEACON_US:
+        missed.append(f"a beacon takes {per_line:.2f} us, goal {GOAL_BEACON_US}")
+    if shutil.which("tshark"):
+        capture = os.path.join(folder, "beacons.pcap")
+        with open(capture, "wb") as file:
+            file.write(beacon_capture())
+        shark, _ = measure(["tshark", "-r", capture, "-V"], capture, 1)
+        print(f"| tshark -V | {shark:.2f} s | {shark / BEACONS * 1e6:.2f} us | {ours / shark:.4f} |")
+
+
+def mixed_table(folder, program, yardstick, name, runs, missed):
+    lines = mixed_kinds()
+    path = os.path.join(folder, "mixed.hex")
+    with open(path, "w", encoding="ascii") as file:
+        file.writelines(f"{lines[i % len(lines)]}\n" for i in range(BEACONS))
+    digits = os.path.join(folder, "mixed.digits")
+    with open(digits, "w", encoding="ascii") as file:
+        file.writelines(f"{lines[i % len(lines)].split(' ')[-1]}\n" for i in range(BEACONS))
+    theirs, _ = measure(yardstick, digits, runs)
+    print(f"| {BEACONS:,} lines of all kinds | time | lines a second | ratio to {name} | memory |")
+    print("|---|---|---|---|---|")
+    for command in ("decode", "check"):
+        ours, memory = measure([program, command], path, runs)
+        print(f"| mld {command} | {ours:.2f} s | {BEACONS / ours:,.0f} | {ours / theirs:.1f} | {memory:.0f} MB |")
+        note_missed(f"mixed lines by {command}", ours / theirs, memory, missed)
+
+
 def run_table(folder, program, runs, missed):
     print("| commands, octets a body | mld run | json and hashlib | ratio | a step | memory |")
     print("|---|---|---|---|---|---|")
@@ -191,6 +273,10 @@ def main():
     missed = []
     with tempfile.TemporaryDirectory() as folder:
         decode_table(folder, program, yardstick, name, runs, missed)
+        print()
+        beacon_table(folder, program, yardstick, name, runs, missed)
+        print()
+        mixed_table(folder, program, yardstick, name, runs, missed)
         print()
         run_table(folder, program, runs, missed)
     for line in missed:

@@ -1,7 +1,8 @@
-//! `mld`: decodes IEEE 802.11be elements given as hex lines, and runs scenarios of two multi-link
-//! devices.
+//! `mld`: decodes and checks IEEE 802.11be elements and frames given as hex lines, and runs scenarios
+//! of two multi-link devices.
 //!
-//! It reads standard input, writes standard output, and ends with the status of the run.
+//! It reads standard input, writes standard output, and ends with the status of the run. A status
+//! other than 0 is told on standard error, with its place.
 #![tactic(auto)]
 
 use std::env::{self, Env};
@@ -10,7 +11,7 @@ use std::io::Write;
 use std::process::ExitCode;
 use wl_frame::StandIn;
 use wl_io::{StdSink, StdSource};
-use wl_top::mld_run;
+use wl_top::{mld_run, write_status};
 
 /// The words behind the program's name.
 fn words(rt: &(impl Env + AllocGlobal)) -> io::Result<Vec<String>> {
@@ -32,5 +33,10 @@ fn main(rt: HostRuntime) -> io::Result<ExitCode> {
         &mut sink,
         &StandIn,
     );
+    if outcome.status != 0 {
+        let mut errors = StdSink::new(rt.stderr());
+        // The exit status tells the outcome too, so a line that isn't taken is passed over.
+        let _ = write_status(outcome.status, outcome.place, &mut errors);
+    }
     Ok(ExitCode::from(outcome.status))
 }

@@ -1,7 +1,12 @@
+pub mod Octets
 pub mod Joining
 pub mod Once
+pub mod Items
+pub mod Cutting
+pub mod Scanning
 pub mod Lists
 pub mod Decoding
 pub mod Total
+pub mod Pieces
 pub mod Writing
 pub mod LinkSets

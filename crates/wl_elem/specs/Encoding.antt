@@ -1,7 +1,7 @@
--- Writing element lists.
+-- Writing element lists and pieces.
 use Rattle.std.specs.Prelude.{◌≡◌, ◌≤◌, ℕ, List, [], ◌∷◌, ◌++◌, length}
-use Rattle.wl_elem.specs.declared.kind.ListKind.TheVariants.{Elements}
-use Rattle.wl_elem.specs.Cutting.{IsCut, joined, fragments}
+use Rattle.wl_elem.specs.declared.kind.ListKind.{ListKind}
+use Rattle.wl_elem.specs.Cutting.{IsCut, joined, fragments, IsWritten}
 use Rattle.wl_elem.specs.Element.{ElementValue}
 use Rattle.wl_elem.specs.ElementList.{Spells, Elems}
 
@@ -22,9 +22,13 @@ abbrev pub AddsElement : ElementValue → List ℕ → List ℕ → Type 0
 AddsElement e old new = (octets : List ℕ) × Spells e octets × (new ≡ old ++ octets)
 
 -- new is old with these octets as Fragments behind it, which may follow a full piece
-pub record AddsFragments (octets old new : List ℕ) : Type 0 where
+pub record AddsFragments (kind : ListKind) (octets old new : List ℕ) : Type 0 where
   pub parts : List (List ℕ)
   pub whole : joined parts ≡ octets
-  pub written : new ≡ old ++ fragments Elements parts
+  pub written : new ≡ old ++ fragments kind parts
   pub cut : (p : List ℕ) → length p ≡ 255 → IsCut (p ∷ parts)
   pub none : octets ≡ [] → parts ≡ []
+
+-- new is old with the pieces of this information under this ID behind it
+abbrev pub AddsPieces : ListKind → ℕ → List ℕ → List ℕ → List ℕ → Type 0
+AddsPieces kind id information old new = (octets : List ℕ) × IsWritten kind id information octets × (new ≡ old ++ octets)

@@ -2,8 +2,10 @@ pub mod Why
 pub mod Answers
 pub mod Cutting
 pub mod Element
+pub mod Identity
 pub mod Row
 pub mod ElementList
+pub mod Items
 pub mod Block
 pub mod Encoding
 pub mod Finding

@@ -1,7 +1,7 @@
 -- The name of each refusal, as it stands in shown texts: the variant as it is spelled.
 use Rattle.std.specs.Prelude.{ℕ, List, codes}
 use Rattle.wl_elem.specs.declared.why.Why.{Why}
-use Rattle.wl_elem.specs.declared.why.Why.TheVariants.{Truncated, StrayFragment, EmptyFragment, NoExtension, ControlShort, CommonShort, CommonLong, ReservedLink, SubTruncated, InfoShort, InfoLong, ReservedDirection, UnknownCategory, UnknownAction, EmlmrLeftOut, NoMapping, NoMultiLink, RepeatedLink, ProfileShort, Short, Version, TypeLeftOut, FourAddress, NoDs, DsInManagement, Fragmented, NotProtected, ProtectedSetup, Order, TidLeftOut, Amsdu, NoExtIv, WrongAddress, NotBuilt}
+use Rattle.wl_elem.specs.declared.why.Why.TheVariants.{Truncated, StrayFragment, EmptyFragment, NoExtension, ControlShort, CommonShort, CommonLong, ReservedLink, SubTruncated, InfoShort, InfoLong, ReservedDirection, UnknownCategory, UnknownAction, EmlmrLeftOut, NoMapping, NoMultiLink, RepeatedLink, ProfileShort, Short, Version, TypeLeftOut, FourAddress, NoDs, DsInManagement, Fragmented, NotProtected, ProtectedSetup, Order, TidLeftOut, Amsdu, NoExtIv, WrongAddress}
 
 abbrev pub why_name : Why → List ℕ
 why_name Truncated = codes "Truncated"
@@ -37,4 +37,3 @@ why_name TidLeftOut = codes "TidLeftOut"
 why_name Amsdu = codes "Amsdu"
 why_name NoExtIv = codes "NoExtIv"
 why_name WrongAddress = codes "WrongAddress"
-why_name NotBuilt = codes "NotBuilt"

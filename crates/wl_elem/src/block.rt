@@ -1,13 +1,16 @@
-//! Items of a list: the first piece and the Fragments that continue it, joined.
+//! Cutting a list into its items: the first piece of each and the Fragments that continue it, joined.
 
-ghost use Rattle.std.specs.Prelude.{◌≡◌, ◌<◌, length, IfOk, IfErr};
+ghost use Rattle.std.specs.Prelude.{◌≡◌, ◌<◌, ◌≤◌, ◌*◌, length, IfOk, IfErr};
 ghost use Rattle.wl_elem.specs.Block.{begins_with_fragment, IsTaken, IsStopped};
+ghost use Rattle.wl_elem.specs.Items.{Items};
 ghost use Rattle.wl_elem.specs.declared.block.Stop.TheVariants.{Memory};
 
+use crate::bytes::Bytes;
+use crate::item::Item;
 use crate::kind::ListKind;
 use crate::piece::first_piece;
 use crate::why::Why;
-use std::alloc::{AllocError, Global};
+use std::alloc::{AllocError, AllocFailed, Global};
 
 /// The item at the front of some octets, and what follows it.
 #[derive(Drop)]
@@ -20,12 +23,12 @@ pub struct Block<'a> {
     pub rest: &'a [u8],
 }
 
-/// Why no item was read.
+/// Why a list isn't cut into items.
 #[derive(Clone, Copy, Debug, PartialEq, Eq)]
 pub enum Stop {
     /// A piece is refused where so many octets are left.
     CutOff { left: usize, why: Why },
-    /// There was no memory for the information.
+    /// There was no memory for the items. It says nothing of the octets.
     Memory,
 }
 
@@ -33,6 +36,14 @@ impl From<AllocError> for Stop {
     ghost from_gives = { λ _ e. e ≡ Memory };
 
     fn from(_e: AllocError) -> Stop {
+        Stop::Memory
+    }
+}
+
+impl<T: Drop> From<AllocFailed<T>> for Stop {
+    ghost from_gives = { λ _ e. e ≡ Memory };
+
+    fn from(_e: AllocFailed<T>) -> Stop {
         Stop::Memory
     }
 }
@@ -85,4 +96,30 @@ pub fn first_block(alloc: Global, kind: ListKind, input: &[u8]) -> Result<Block<
         information,
         rest,
     })
+}
+
+/// The items that octets are cut into, all of the octets.
+///
+/// Ok exactly where the octets are the pieces of items; each list has one spelling. Otherwise
+/// `CutOff` at the first piece that breaks a rule, with as many octets left as stand from its header
+/// on: in this order the kind's name for octets that aren't whole where fewer than 2 are left,
+/// StrayFragment where a Fragment doesn't directly follow a piece of Length 255, EmptyFragment where
+/// it has Length 0, NoExtension where an ID with an extension has Length 0, the first name again
+/// where fewer octets are left than the Length. `Memory` where there was none for the items.
+pub fn cut_items(alloc: Global, kind: ListKind, input: &[u8]) -> Result<Vec<Item>, Stop>
+    ensures cut { IfOk result (λ list. Items kind list.items input.now) }
+    ensures count { IfOk result (λ list. 2 * length list.items ≤ length input.now) }
+    ensures stopped { IfErr result (λ stop. IsStopped kind input.now stop) }
+{
+    let mut list = Vec::new(alloc);
+    let mut rest = input;
+    'items: while !rest.is_empty() {
+        let block = first_block(alloc, kind, rest)?;
+        rest = block.rest;
+        list.push(Item {
+            id: block.id,
+            octets: Bytes::from_vec(block.information),
+        })?;
+    }
+    Ok(list)
 }

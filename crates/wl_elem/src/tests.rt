@@ -54,6 +54,33 @@ fn long_bodies_are_cut_and_joined(rt: HostRuntime) -> Result<(), Fail> {
 }
 
 #[test]
+fn items_are_cut_as_their_list_says(rt: HostRuntime) -> Result<(), Fail> {
+    let alloc = rt.alloc();
+    // The kind, and the ID of a Fragment in such a list.
+    let cases = [(ListKind::Elements, 242), (ListKind::Subelements, 254)];
+    for (kind, fragment) in cases {
+        let mut text = Bytes::new(alloc);
+        put_item(&mut text, kind, 221, &[7; 256])?;
+        put_item(&mut text, kind, 1, &[])?;
+        let octets = text.as_slice();
+        assert_eq!(rt; octets.len(), 262);
+        assert!(rt; octets.ends_with(&[fragment, 1, 7, 1, 0]));
+        let items = cut_items(alloc, kind, octets).ok().ok_or("a list")?;
+        let [first, second] = items.as_slice() else {
+            return Err(Fail::from("two items"));
+        };
+        assert_eq!(rt; first.id, 221);
+        assert!(rt; first.octets.as_slice() == [7; 256].as_slice());
+        assert_eq!(rt; second.id, 1);
+        assert!(rt; second.octets.as_slice().is_empty());
+        let stop = cut_items(alloc, kind, &[1, 0, fragment, 1, 7]).err();
+        let why = Why::StrayFragment;
+        assert_eq!(rt; stop, Some(Stop::CutOff { left: 3, why }));
+    }
+    Ok(())
+}
+
+#[test]
 fn broken_lists_are_refused_at_their_place(rt: HostRuntime) {
     let cases = [
         ([0x00, 0x01, 0xaa, 0xdd].as_slice(), 3, Why::Truncated),

@@ -72,8 +72,6 @@ pub enum Why {
     NoExtIv,
     /// A frame's address or direction isn't the receiver's.
     WrongAddress,
-    /// This version of the program doesn't show such a line yet.
-    NotBuilt,
 }
 
 impl Why {
@@ -115,7 +113,6 @@ impl Why {
             Why::Amsdu => "Amsdu",
             Why::NoExtIv => "NoExtIv",
             Why::WrongAddress => "WrongAddress",
-            Why::NotBuilt => "NotBuilt",
         }
     }
 }

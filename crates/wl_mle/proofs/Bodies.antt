@@ -6,18 +6,18 @@ use Rattle.wl_elem.specs.declared.why.Why.TheVariants.{CommonShort, CommonLong}
 use Rattle.wl_elem.specs.declared.fault.Refusal.{Refusal}
 use Rattle.wl_elem.specs.declared.fault.Fault.{Fault}
 use Rattle.wl_elem.specs.declared.kind.ListKind.TheVariants.{Subelements}
+use Rattle.wl_elem.specs.declared.block.Stop.{Stop}
+use Rattle.wl_elem.specs.declared.block.Stop.TheVariants as stops
+use Rattle.wl_elem.specs.declared.item.Item.{Item}
 use Rattle.wl_elem.specs.Answers.{refusal_at, Answers}
 use Rattle.wl_elem.specs.Row.{row_text, IsCutOff}
+use Rattle.wl_elem.specs.Block.{IsStopped, IsStoppedAs, IsWithin}
+use Rattle.wl_elem.specs.Items.{Items}
 use Rattle.wl_mle.specs.declared.multi_link.MultiLink.{MultiLink}
-use Rattle.wl_mle.specs.declared.stop.Stop.{Stop}
-use Rattle.wl_mle.specs.declared.stop.Stop.TheVariants as stops
-use Rattle.wl_mle.specs.declared.subelement.Subelement.{Subelement}
 use Rattle.wl_mle.specs.Fields.{has_bit, need, info_fault, behind_info}
 use Rattle.wl_mle.specs.Layout.{basic_slots, reconf_slots}
 use Rattle.wl_mle.specs.MultiLink.{basic_fault, reconf_fault, CutRefused}
 use Rattle.wl_mle.specs.Reading.{ReadsSubs, ReadsBehind}
-use Rattle.wl_mle.specs.Stops.{IsStopped, IsStoppedAs, IsWithin}
-use Rattle.wl_mle.specs.Subelements.{Subs}
 
 abbrev failed : Fault → Result MultiLink Fault
 failed fault = Err fault
@@ -30,13 +30,13 @@ behind_within (len ∷ rest) = omega (arith, length-drop (len - 1) rest)
 pub left_within : (octets : List ℕ) (left : ℕ) (why : Why) → IsCutOff Subelements false octets left why → left ≤ length octets
 left_within octets left why h = omega (arith, h.counted, ap length h.split, length-append (row_text h.row) h.rest)
 
-pub stop_within : (rest : List ℕ) (stop : Stop) → IsStopped (behind_info rest) stop → IsWithin (length rest + 2) stop
+pub stop_within : (rest : List ℕ) (stop : Stop) → IsStopped Subelements (behind_info rest) stop → IsWithin (length rest + 2) stop
 stop_within rest (stops.CutOff left why) stopped = omega (arith, left_within (behind_info rest) left why stopped, behind_within rest)
 stop_within rest stops.Memory stopped = tt
 
 -- the subelements are refused
-pub stopped_at : (found : Option Refusal) (make : List Subelement → Result MultiLink Refusal) (rest : List ℕ) (stop : Stop) (fault : Fault) → found ≡ None
-    → IsStopped (behind_info rest) stop → IsStoppedAs (length rest + 2) stop fault → Answers (failed fault) (ReadsBehind found make rest)
+pub stopped_at : (found : Option Refusal) (make : List Item → Result MultiLink Refusal) (rest : List ℕ) (stop : Stop) (fault : Fault) → found ≡ None
+    → IsStopped Subelements (behind_info rest) stop → IsStoppedAs (length rest + 2) stop fault → Answers (failed fault) (ReadsBehind found make rest)
 stopped_at found make rest (stops.CutOff left why) fault none stopped same =
     let within = left_within (behind_info rest) left why stopped in
     let refusal = refusal_at (length rest + 2 - left) why in
@@ -46,8 +46,8 @@ stopped_at found make rest (stops.CutOff left why) fault none stopped same =
 stopped_at found make rest stops.Memory fault none stopped same = subst (λ (f : Fault). Answers (failed f) (ReadsBehind found make rest)) (sym same) tt
 
 -- they are read
-pub made_of : (found : Option Refusal) (make : List Subelement → Result MultiLink Refusal) (rest : List ℕ) (list : List Subelement) (reading : Result MultiLink Refusal) → found ≡ None
-    → Subs list (behind_info rest) → reading ≡ make list → ReadsBehind found make rest reading
+pub made_of : (found : Option Refusal) (make : List Item → Result MultiLink Refusal) (rest : List ℕ) (list : List Item) (reading : Result MultiLink Refusal) → found ≡ None
+    → Items Subelements list (behind_info rest) → reading ≡ make list → ReadsBehind found make rest reading
 made_of found make rest list reading none cut same = subst (λ (o : Option Refusal). ReadsBehind o make rest reading) (sym none) (inr (list, cut, same))
 
 -- Common Info passes its tests

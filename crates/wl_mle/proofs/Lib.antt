@@ -1,14 +1,13 @@
 pub mod Bits
 pub mod Bodies
 pub mod CommonLayouts
-pub mod Cutting
 pub mod Infos
-pub mod Lists
 pub mod Numbers
 pub mod Once
 pub mod ProfileLayouts
 pub mod Profiles
 pub mod Shared
+pub mod Subelements
 pub mod SubLists
 pub mod Writing
 pub mod Lengths

@@ -7,23 +7,22 @@ use Rattle.wl_elem.specs.declared.fault.Refusal.{Refusal}
 use Rattle.wl_elem.specs.declared.fault.Fault.{Fault}
 use Rattle.wl_elem.specs.declared.fault.Fault.TheVariants as faults
 use Rattle.wl_elem.specs.declared.kind.ListKind.TheVariants.{Subelements}
+use Rattle.wl_elem.specs.declared.item.Item.{Item}
 use Rattle.wl_elem.specs.Answers.{refusal_at, Answers, AnswersOnly}
 use Rattle.wl_elem.specs.Octets.{octets_of}
-use Rattle.wl_elem.proofs.Once.{one_cut_off}
+use Rattle.wl_elem.specs.Items.{Items}
 use Rattle.wl_mle.specs.declared.basic.Basic.{Basic}
 use Rattle.wl_mle.specs.declared.reconf.Reconf.{Reconf}
 use Rattle.wl_mle.specs.declared.multi_link.MultiLink.{MultiLink}
 use Rattle.wl_mle.specs.declared.multi_link.MultiLink.TheVariants as elements
-use Rattle.wl_mle.specs.declared.subelement.Subelement.{Subelement}
 use Rattle.wl_mle.specs.Fields.{info, behind_info, word_of}
 use Rattle.wl_mle.specs.Layout.{profile_slots, change_slots, basic_fields, reconf_fields, basic_control, reconf_control}
 use Rattle.wl_mle.specs.MultiLink.{basic_sub, IsBasicSub, reconf_sub, IsReconfSub, IsBasic, IsReconf, IsMultiLink, subs_of, spelling, MlOf, subs_refusal, basic_fault, reconf_fault, CutRefused, ProfileRefused, IsRefused, RefusedAs, RefusedBody, ReadAs}
 use Rattle.wl_mle.specs.Reading.{basic_of, common_at, reconf_at, basic_sub_at, reconf_sub_at, unless_refused, basic_with, reconf_with, ReadsBehind, ReadsType, ReadsWord, ReadsLong, ReadsBody}
-use Rattle.wl_mle.specs.Subelements.{Subs}
 use Rattle.wl_mle.proofs.Bodies.{left_within, behind_within, made_of}
 use Rattle.wl_mle.proofs.CommonLayouts.{basic_word_of, basic_again, basic_read, reconf_word_of, reconf_again, reconf_read}
 use Rattle.wl_mle.proofs.Infos.{behind_again}
-use Rattle.wl_mle.proofs.Lists.{are_subs, not_both, one_list, one_text, cut_or_refused}
+use Rattle.wl_mle.proofs.Subelements.{CutsInOneWay, CutsOrRefuses, CutsOctets, SpellsOnce, are_subs}
 use Rattle.wl_mle.proofs.Numbers.{IsOctets, IsOctets-drop, word_again, word_text, word_below, length-octets_of}
 use Rattle.wl_mle.proofs.SubLists.{list_passes, list_again, list_is, list_text, basic_sub_passes, basic_sub_again, basic_sub_is, basic_sub_text, reconf_sub_passes, reconf_sub_again, reconf_sub_is, reconf_sub_text}
 
@@ -55,7 +54,7 @@ reconf_value r subs is =
     let list = list_again reconf_sub reconf_sub_at IsReconfSub reconf_sub_again r.subs is.subs in
     rw list (ap (λ x. elements.Reconfiguration x) (sym again.1))
 
-reads_value : (value : MultiLink) (subs : List ℕ) → IsMultiLink value → Subs (subs_of value) subs → ReadsBody (spelling value subs) (Ok value)
+reads_value : (value : MultiLink) (subs : List ℕ) → IsMultiLink value → Items Subelements (subs_of value) subs → ReadsBody (spelling value subs) (Ok value)
 reads_value (elements.Basic b) subs is cut =
     let word = basic_control b in
     let w = basic_word_of b is in
@@ -63,7 +62,7 @@ reads_value (elements.Basic b) subs is cut =
     let list = map basic_sub b.subs in
     let again = basic_again b is subs in
     let passes = list_passes profile_slots basic_sub IsBasicSub basic_sub_passes b.subs 0 is.subs in
-    let behind = subst (λ (x : List ℕ). Subs list x) (sym (behind_again (basic_fields b.common) b.common.tail subs)) cut in
+    let behind = subst (λ (x : List ℕ). Items Subelements list x) (sym (behind_again (basic_fields b.common) b.common.tail subs)) cut in
     let value : Ok (elements.Basic b) ≡ basic_with word rest list = rw passes (ap (λ (x : MultiLink). Ok x) (basic_value b subs is)) in
     reads_word word rest (Ok (elements.Basic b)) w.below
     (by_type true (eqb (word % 8) 2) word rest (Ok (elements.Basic b)) (eq-eqb (word % 8) 0 w.kind) refl
@@ -75,7 +74,7 @@ reads_value (elements.Reconfiguration r) subs is cut =
     let list = map reconf_sub r.subs in
     let again = reconf_again r is subs in
     let passes = list_passes change_slots reconf_sub IsReconfSub reconf_sub_passes r.subs 0 is.subs in
-    let behind = subst (λ (x : List ℕ). Subs list x) (sym (behind_again (reconf_fields r) r.tail subs)) cut in
+    let behind = subst (λ (x : List ℕ). Items Subelements list x) (sym (behind_again (reconf_fields r) r.tail subs)) cut in
     let value : Ok (elements.Reconfiguration r) ≡ reconf_with word rest list = rw passes (ap (λ (x : MultiLink). Ok x) (reconf_value r subs is)) in
     reads_word word rest (Ok (elements.Reconfiguration r)) w.below
     (by_type false true word rest (Ok (elements.Reconfiguration r)) (ne_eqb (word % 8) 0 (λ e. omega (arith, e, w.kind))) (eq-eqb (word % 8) 2 w.kind)
@@ -84,8 +83,8 @@ reads_value (elements.Other control body) subs is cut =
     reads_word control body (Ok (elements.Other control body)) is.word
     (by_type false false control body (Ok (elements.Other control body)) (ne_eqb (control % 8) 0 is.not_basic) (ne_eqb (control % 8) 2 is.not_reconf) refl)
 
-refused_behind : (found : Option Refusal) (slots : ℕ → List (Bool × ℕ)) (make : List Subelement → Result MultiLink Refusal) (rest : List ℕ) (refusal : Refusal)
-    → ((list : List Subelement) → subs_refusal slots 0 list ≡ Some refusal → Err refusal ≡ make list) → IsRefused found slots rest refusal → ReadsBehind found make rest (Err refusal)
+refused_behind : (found : Option Refusal) (slots : ℕ → List (Bool × ℕ)) (make : List Item → Result MultiLink Refusal) (rest : List ℕ) (refusal : Refusal)
+    → ((list : List Item) → subs_refusal slots 0 list ≡ Some refusal → Err refusal ≡ make list) → IsRefused found slots rest refusal → ReadsBehind found make rest (Err refusal)
 refused_behind (Some fault) slots make rest refusal made h = ap (λ (x : Refusal). Err x) h
 refused_behind None slots make rest refusal made (inl cut) = inl (refusal, refl, cut)
 refused_behind None slots make rest refusal made (inr profile) = inr (profile.list, profile.cut, made profile.list profile.first)
@@ -110,37 +109,37 @@ abbrev AsBehind : Option Refusal → (ℕ → List (Bool × ℕ)) → List ℕ �
 AsBehind found slots rest body (Ok value) = MlOf value body
 AsBehind found slots rest body (Err refusal) = IsRefused found slots rest refusal
 
-as_made : (slots : ℕ → List (Bool × ℕ)) (rest body : List ℕ) (list : List Subelement) (value : MultiLink) (reading : Result MultiLink Refusal) (refused : Option Refusal) → Subs list (behind_info rest)
+as_made : (slots : ℕ → List (Bool × ℕ)) (rest body : List ℕ) (list : List Item) (value : MultiLink) (reading : Result MultiLink Refusal) (refused : Option Refusal) → Items Subelements list (behind_info rest)
     → subs_refusal slots 0 list ≡ refused → reading ≡ unless_refused refused value → (subs_refusal slots 0 list ≡ None → MlOf value body) → AsBehind None slots rest body reading
 as_made slots rest body list value reading (Some refusal) cut e same of =
     let profile : ProfileRefused slots rest refusal = record { list = list; cut = cut; first = e } in
     subst (λ (r : Result MultiLink Refusal). AsBehind None slots rest body r) (sym same) (inr profile)
 as_made slots rest body list value reading None cut e same of = subst (λ (r : Result MultiLink Refusal). AsBehind None slots rest body r) (sym same) (of e)
 
-as_behind : (found : Option Refusal) (slots : ℕ → List (Bool × ℕ)) (value : List Subelement → MultiLink) (rest body : List ℕ) (reading : Result MultiLink Refusal)
-    → (found ≡ None → (list : List Subelement) → Subs list (behind_info rest) → subs_refusal slots 0 list ≡ None → MlOf (value list) body)
+as_behind : (found : Option Refusal) (slots : ℕ → List (Bool × ℕ)) (value : List Item → MultiLink) (rest body : List ℕ) (reading : Result MultiLink Refusal)
+    → (found ≡ None → (list : List Item) → Items Subelements list (behind_info rest) → subs_refusal slots 0 list ≡ None → MlOf (value list) body)
     → ReadsBehind found (λ list. unless_refused (subs_refusal slots 0 list) (value list)) rest reading → AsBehind found slots rest body reading
 as_behind (Some fault) slots value rest body reading of same = subst (λ (r : Result MultiLink Refusal). AsBehind (Some fault) slots rest body r) (sym same) refl
 as_behind None slots value rest body reading of (inl (refusal, same, cut)) = subst (λ (r : Result MultiLink Refusal). AsBehind None slots rest body r) (sym same) (inl cut)
 as_behind None slots value rest body reading of (inr (list, cut, same)) = as_made slots rest body list (value list) reading (subs_refusal slots 0 list) cut refl same (of refl list cut)
 
-basic_is_of : (word : ℕ) (rest body : List ℕ) → word < 65536 → word % 8 ≡ 0 → IsOctets rest → IsOctets (behind_info rest) → body ≡ octets_of 2 word ++ rest → basic_fault word rest ≡ None
-    → (list : List Subelement) → Subs list (behind_info rest) → subs_refusal profile_slots 0 list ≡ None → MlOf (elements.Basic (basic_of word (common_at word rest) (map basic_sub_at list))) body
-basic_is_of word rest body lt kind is behind_is text sound list cut none =
-    let subs = are_subs list (behind_info rest) behind_is cut in
+basic_is_of : CutsOctets → (word : ℕ) (rest body : List ℕ) → word < 65536 → word % 8 ≡ 0 → IsOctets rest → IsOctets (behind_info rest) → body ≡ octets_of 2 word ++ rest → basic_fault word rest ≡ None
+    → (list : List Item) → Items Subelements list (behind_info rest) → subs_refusal profile_slots 0 list ≡ None → MlOf (elements.Basic (basic_of word (common_at word rest) (map basic_sub_at list))) body
+basic_is_of law word rest body lt kind is behind_is text sound list cut none =
+    let subs = are_subs law list (behind_info rest) behind_is cut in
     let each = list_is profile_slots basic_sub_at IsBasicSub basic_sub_is list 0 subs none in
     let same = list_text profile_slots basic_sub basic_sub_at basic_sub_text list 0 subs none in
     let read = basic_read word rest (map basic_sub_at list) lt kind is sound each in
-    record { is_value = read.0; subs = behind_info rest; cut = subst (λ (x : List Subelement). Subs x (behind_info rest)) (sym same) cut; text = text ∙ sym read.1 }
+    record { is_value = read.0; subs = behind_info rest; cut = subst (λ (x : List Item). Items Subelements x (behind_info rest)) (sym same) cut; text = text ∙ sym read.1 }
 
-reconf_is_of : (word : ℕ) (rest body : List ℕ) → word < 65536 → word % 8 ≡ 2 → IsOctets rest → IsOctets (behind_info rest) → body ≡ octets_of 2 word ++ rest → reconf_fault word rest ≡ None
-    → (list : List Subelement) → Subs list (behind_info rest) → subs_refusal change_slots 0 list ≡ None → MlOf (elements.Reconfiguration (reconf_at word rest (map reconf_sub_at list))) body
-reconf_is_of word rest body lt kind is behind_is text sound list cut none =
-    let subs = are_subs list (behind_info rest) behind_is cut in
+reconf_is_of : CutsOctets → (word : ℕ) (rest body : List ℕ) → word < 65536 → word % 8 ≡ 2 → IsOctets rest → IsOctets (behind_info rest) → body ≡ octets_of 2 word ++ rest → reconf_fault word rest ≡ None
+    → (list : List Item) → Items Subelements list (behind_info rest) → subs_refusal change_slots 0 list ≡ None → MlOf (elements.Reconfiguration (reconf_at word rest (map reconf_sub_at list))) body
+reconf_is_of law word rest body lt kind is behind_is text sound list cut none =
+    let subs = are_subs law list (behind_info rest) behind_is cut in
     let each = list_is change_slots reconf_sub_at IsReconfSub reconf_sub_is list 0 subs none in
     let same = list_text change_slots reconf_sub reconf_sub_at reconf_sub_text list 0 subs none in
     let read = reconf_read word rest (map reconf_sub_at list) lt kind is sound each in
-    record { is_value = read.0; subs = behind_info rest; cut = subst (λ (x : List Subelement). Subs x (behind_info rest)) (sym same) cut; text = text ∙ sym read.1 }
+    record { is_value = read.0; subs = behind_info rest; cut = subst (λ (x : List Item). Items Subelements x (behind_info rest)) (sym same) cut; text = text ∙ sym read.1 }
 
 abbrev AsType : Bool → Bool → ℕ → List ℕ → List ℕ → Result MultiLink Refusal → Type 0
 AsType first second word rest body (Ok value) = MlOf value body
@@ -158,15 +157,15 @@ of_reconf : (word : ℕ) (rest body : List ℕ) (reading : Result MultiLink Refu
 of_reconf word rest body (Ok value) h = h
 of_reconf word rest body (Err refusal) h = h
 
-as_type : (first second : Bool) (word : ℕ) (rest body : List ℕ) (reading : Result MultiLink Refusal) → eqb (word % 8) 0 ≡ first → eqb (word % 8) 2 ≡ second → word < 65536 → IsOctets rest → body ≡ octets_of 2 word ++ rest
+as_type : CutsOctets → (first second : Bool) (word : ℕ) (rest body : List ℕ) (reading : Result MultiLink Refusal) → eqb (word % 8) 0 ≡ first → eqb (word % 8) 2 ≡ second → word < 65536 → IsOctets rest → body ≡ octets_of 2 word ++ rest
     → ReadsType first second word rest reading → AsType first second word rest body reading
-as_type true second word rest body reading e f lt is text h =
+as_type law true second word rest body reading e f lt is text h =
     of_basic second word rest body reading
-    (as_behind (basic_fault word rest) profile_slots (λ list. elements.Basic (basic_of word (common_at word rest) (map basic_sub_at list))) rest body reading (basic_is_of word rest body lt (eqb-true _ _ e) is (behind_octets rest is) text) h)
-as_type false true word rest body reading e f lt is text h =
+    (as_behind (basic_fault word rest) profile_slots (λ list. elements.Basic (basic_of word (common_at word rest) (map basic_sub_at list))) rest body reading (basic_is_of law word rest body lt (eqb-true _ _ e) is (behind_octets rest is) text) h)
+as_type law false true word rest body reading e f lt is text h =
     of_reconf word rest body reading
-    (as_behind (reconf_fault word rest) change_slots (λ list. elements.Reconfiguration (reconf_at word rest (map reconf_sub_at list))) rest body reading (reconf_is_of word rest body lt (eqb-true _ _ f) is (behind_octets rest is) text) h)
-as_type false false word rest body reading e f lt is text h =
+    (as_behind (reconf_fault word rest) change_slots (λ list. elements.Reconfiguration (reconf_at word rest (map reconf_sub_at list))) rest body reading (reconf_is_of law word rest body lt (eqb-true _ _ f) is (behind_octets rest is) text) h)
+as_type law false false word rest body reading e f lt is text h =
     let other : MlOf (elements.Other word rest) body = record { is_value = record { word = lt; not_basic = eqb-false _ _ e; not_reconf = eqb-false _ _ f }; subs = []; cut = refl; text = text } in
     subst (λ (r : Result MultiLink Refusal). AsType false false word rest body r) (sym h) other
 
@@ -178,52 +177,52 @@ of_type : (body : List ℕ) (reading : Result MultiLink Refusal) → AsType (eqb
 of_type body (Ok value) h = h
 of_type body (Err refusal) h = h
 
-as_long : (few : Bool) (body : List ℕ) (reading : Result MultiLink Refusal) → ltb (length body) 2 ≡ few → IsOctets body → ReadsLong few body reading → AsLong few body reading
-as_long true body reading e is h = subst (λ (r : Result MultiLink Refusal). AsLong true body r) (sym h) refl
-as_long false body reading e is h =
-    of_type body reading (as_type _ _ (word_of body) (drop 2 body) body reading refl refl (word_below body is) (IsOctets-drop 2 body is) (word_text body (ltb-false _ _ e) is) h)
+as_long : CutsOctets → (few : Bool) (body : List ℕ) (reading : Result MultiLink Refusal) → ltb (length body) 2 ≡ few → IsOctets body → ReadsLong few body reading → AsLong few body reading
+as_long law true body reading e is h = subst (λ (r : Result MultiLink Refusal). AsLong true body r) (sym h) refl
+as_long law false body reading e is h =
+    of_type body reading (as_type law _ _ (word_of body) (drop 2 body) body reading refl refl (word_below body is) (IsOctets-drop 2 body is) (word_text body (ltb-false _ _ e) is) h)
 
 of_long : (body : List ℕ) (reading : Result MultiLink Refusal) → AsLong (ltb (length body) 2) body reading → ReadAs body reading
 of_long body (Ok value) h = h
 of_long body (Err refusal) h = h
 
 -- what is read is a reading of the layout
-pub is_reading : (body : List ℕ) (reading : Result MultiLink Refusal) → IsOctets body → ReadsBody body reading → ReadAs body reading
-is_reading body reading is h = of_long body reading (as_long (ltb (length body) 2) body reading refl is h)
+pub is_reading : CutsOctets → (body : List ℕ) (reading : Result MultiLink Refusal) → IsOctets body → ReadsBody body reading → ReadAs body reading
+is_reading law body reading is h = of_long body reading (as_long law (ltb (length body) 2) body reading refl is h)
 
 -- ---- read once
 
-one_cut_refusal : (rest : List ℕ) (a b : Refusal) → CutRefused rest a → CutRefused rest b → a ≡ b
-one_cut_refusal rest a b p q =
-    let same = one_cut_off Subelements (behind_info rest) p.left q.left a.why b.why p.cut_off q.cut_off in
+one_cut_refusal : CutsInOneWay → (rest : List ℕ) (a b : Refusal) → CutRefused rest a → CutRefused rest b → a ≡ b
+one_cut_refusal law rest a b p q =
+    let same = law.refusal Subelements (behind_info rest) p.left q.left a.why b.why p.cut_off q.cut_off in
     let places : p.place ≡ q.place = omega (arith, p.split, q.split, same.0) in
     p.is_at ∙ ap (λ (n : ℕ). refusal_at n a.why) places ∙ ap (refusal_at q.place) same.1 ∙ sym q.is_at
 
-one_behind : (found : Option Refusal) (make : List Subelement → Result MultiLink Refusal) (rest : List ℕ) (a b : Result MultiLink Refusal) → ReadsBehind found make rest a → ReadsBehind found make rest b → a ≡ b
-one_behind (Some fault) make rest a b p q = p ∙ sym q
-one_behind None make rest a b (inl (x, e, cut)) (inl (y, f, other)) = e ∙ ap (λ (r : Refusal). Err r) (one_cut_refusal rest x y cut other) ∙ sym f
-one_behind None make rest a b (inl (x, e, cut)) (inr (list, whole, f)) = absurd (not_both list (behind_info rest) cut.left x.why whole cut.cut_off)
-one_behind None make rest a b (inr (list, whole, e)) (inl (y, f, cut)) = absurd (not_both list (behind_info rest) cut.left y.why whole cut.cut_off)
-one_behind None make rest a b (inr (list, whole, e)) (inr (other, cut, f)) = e ∙ ap make (one_list list other (behind_info rest) whole cut) ∙ sym f
+one_behind : CutsInOneWay → (found : Option Refusal) (make : List Item → Result MultiLink Refusal) (rest : List ℕ) (a b : Result MultiLink Refusal) → ReadsBehind found make rest a → ReadsBehind found make rest b → a ≡ b
+one_behind law (Some fault) make rest a b p q = p ∙ sym q
+one_behind law None make rest a b (inl (x, e, cut)) (inl (y, f, other)) = e ∙ ap (λ (r : Refusal). Err r) (one_cut_refusal law rest x y cut other) ∙ sym f
+one_behind law None make rest a b (inl (x, e, cut)) (inr (list, whole, f)) = absurd (law.not_both Subelements list (behind_info rest) cut.left x.why whole cut.cut_off)
+one_behind law None make rest a b (inr (list, whole, e)) (inl (y, f, cut)) = absurd (law.not_both Subelements list (behind_info rest) cut.left y.why whole cut.cut_off)
+one_behind law None make rest a b (inr (list, whole, e)) (inr (other, cut, f)) = e ∙ ap make (law.list Subelements list other (behind_info rest) whole cut) ∙ sym f
 
-one_type : (first second : Bool) (word : ℕ) (rest : List ℕ) (a b : Result MultiLink Refusal) → ReadsType first second word rest a → ReadsType first second word rest b → a ≡ b
-one_type true second word rest a b p q = one_behind (basic_fault word rest) (basic_with word rest) rest a b p q
-one_type false true word rest a b p q = one_behind (reconf_fault word rest) (reconf_with word rest) rest a b p q
-one_type false false word rest a b p q = p ∙ sym q
+one_type : CutsInOneWay → (first second : Bool) (word : ℕ) (rest : List ℕ) (a b : Result MultiLink Refusal) → ReadsType first second word rest a → ReadsType first second word rest b → a ≡ b
+one_type law true second word rest a b p q = one_behind law (basic_fault word rest) (basic_with word rest) rest a b p q
+one_type law false true word rest a b p q = one_behind law (reconf_fault word rest) (reconf_with word rest) rest a b p q
+one_type law false false word rest a b p q = p ∙ sym q
 
-one_long : (few : Bool) (body : List ℕ) (a b : Result MultiLink Refusal) → ReadsLong few body a → ReadsLong few body b → a ≡ b
-one_long true body a b p q = p ∙ sym q
-one_long false body a b p q = one_type (eqb (word_of body % 8) 0) (eqb (word_of body % 8) 2) (word_of body) (drop 2 body) a b p q
+one_long : CutsInOneWay → (few : Bool) (body : List ℕ) (a b : Result MultiLink Refusal) → ReadsLong few body a → ReadsLong few body b → a ≡ b
+one_long law true body a b p q = p ∙ sym q
+one_long law false body a b p q = one_type law (eqb (word_of body % 8) 0) (eqb (word_of body % 8) 2) (word_of body) (drop 2 body) a b p q
 
-pub one_reading : (body : List ℕ) (a b : Result MultiLink Refusal) → ReadAs body a → ReadAs body b → a ≡ b
-one_reading body a b p q = one_long (ltb (length body) 2) body a b (reads body a p) (reads body b q)
+pub one_reading : CutsInOneWay → (body : List ℕ) (a b : Result MultiLink Refusal) → ReadAs body a → ReadAs body b → a ≡ b
+one_reading law body a b p q = one_long law (ltb (length body) 2) body a b (reads body a p) (reads body b q)
 
 -- ---- read or refused
 
-some_behind : (found : Option Refusal) (make : List Subelement → Result MultiLink Refusal) (rest : List ℕ) → IsOctets rest → (reading : Result MultiLink Refusal) × ReadsBehind found make rest reading
-some_behind (Some fault) make rest is = (Err fault, refl)
-some_behind None make rest is =
-    elim (cut_or_refused (behind_info rest) (behind_octets rest is)) [
+some_behind : CutsOrRefuses → (found : Option Refusal) (make : List Item → Result MultiLink Refusal) (rest : List ℕ) → IsOctets rest → (reading : Result MultiLink Refusal) × ReadsBehind found make rest reading
+some_behind law (Some fault) make rest is = (Err fault, refl)
+some_behind law None make rest is =
+    elim (law Subelements (behind_info rest) (behind_octets rest is)) [
       | inl (list, cut) ↦ (make list, inr (list, cut, refl))
       | inr (left, why, cut_off) ↦
           let within = left_within (behind_info rest) left why cut_off in
@@ -232,36 +231,37 @@ some_behind None make rest is =
           (Err refusal, inl (refusal, refl, refused))
     ]
 
-some_type : (first second : Bool) (word : ℕ) (rest : List ℕ) → IsOctets rest → (reading : Result MultiLink Refusal) × ReadsType first second word rest reading
-some_type true second word rest is = some_behind (basic_fault word rest) (basic_with word rest) rest is
-some_type false true word rest is = some_behind (reconf_fault word rest) (reconf_with word rest) rest is
-some_type false false word rest is = (Ok (elements.Other word rest), refl)
+some_type : CutsOrRefuses → (first second : Bool) (word : ℕ) (rest : List ℕ) → IsOctets rest → (reading : Result MultiLink Refusal) × ReadsType first second word rest reading
+some_type law true second word rest is = some_behind law (basic_fault word rest) (basic_with word rest) rest is
+some_type law false true word rest is = some_behind law (reconf_fault word rest) (reconf_with word rest) rest is
+some_type law false false word rest is = (Ok (elements.Other word rest), refl)
 
-some_long : (few : Bool) (body : List ℕ) → IsOctets body → (reading : Result MultiLink Refusal) × ReadsLong few body reading
-some_long true body is = (Err (refusal_at 0 ControlShort), refl)
-some_long false body is = some_type (eqb (word_of body % 8) 0) (eqb (word_of body % 8) 2) (word_of body) (drop 2 body) (IsOctets-drop 2 body is)
+some_long : CutsOrRefuses → (few : Bool) (body : List ℕ) → IsOctets body → (reading : Result MultiLink Refusal) × ReadsLong few body reading
+some_long law true body is = (Err (refusal_at 0 ControlShort), refl)
+some_long law false body is = some_type law (eqb (word_of body % 8) 0) (eqb (word_of body % 8) 2) (word_of body) (drop 2 body) (IsOctets-drop 2 body is)
 
-pub is_read_or_refused : (body : List ℕ) → IsOctets body → (reading : Result MultiLink Refusal) × ReadAs body reading
-is_read_or_refused body is =
-    let found = some_long (ltb (length body) 2) body is in
-    (found.0, is_reading body found.0 is found.1)
+pub is_read_or_refused : CutsOrRefuses → CutsOctets → (body : List ℕ) → IsOctets body → (reading : Result MultiLink Refusal) × ReadAs body reading
+is_read_or_refused all law body is =
+    let found = some_long all (ltb (length body) 2) body is in
+    (found.0, is_reading law body found.0 is found.1)
 
 -- ---- spelled once
 
-pub one_spelling : (value : MultiLink) (body other : List ℕ) → MlOf value body → MlOf value other → body ≡ other
-one_spelling value body other a b = a.text ∙ ap (spelling value) (one_text (subs_of value) a.subs b.subs a.cut b.cut) ∙ sym b.text
-
-pub is_read_back : (value : MultiLink) (body : List ℕ) (reading : Result MultiLink Refusal) → MlOf value body → ReadAs body reading → reading ≡ Ok value
-is_read_back value body reading of read = one_reading body reading (Ok value) read of
+pub one_spelling : SpellsOnce → (value : MultiLink) (body other : List ℕ) → MlOf value body → MlOf value other → body ≡ other
+one_spelling law value body other a b = a.text ∙ ap (spelling value) (law Subelements (subs_of value) a.subs b.subs a.cut b.cut) ∙ sym b.text
 
 -- ---- answers
 
-pub answered : (body : List ℕ) (answer : Result MultiLink Fault) → IsOctets body → Answers answer (ReadsBody body) → Answers answer (ReadAs body)
-answered body (Ok value) is h = is_reading body (Ok value) is h
-answered body (Err (faults.Refused refusal)) is h = is_reading body (Err refusal) is h
-answered body (Err faults.Memory) is h = tt
+pub answered : CutsOctets → (body : List ℕ) (answer : Result MultiLink Fault) → IsOctets body → Answers answer (ReadsBody body) → Answers answer (ReadAs body)
+answered law body (Ok value) is h = is_reading law body (Ok value) is h
+answered law body (Err (faults.Refused refusal)) is h = is_reading law body (Err refusal) is h
+answered law body (Err faults.Memory) is h = tt
 
-pub answered_only : (body : List ℕ) (answer : Result MultiLink Fault) → Answers answer (ReadsBody body) → (reading : Result MultiLink Refusal) → ReadAs body reading → AnswersOnly answer reading
-answered_only body (Ok value) h reading read = one_long (ltb (length body) 2) body reading (Ok value) (reads body reading read) h
-answered_only body (Err (faults.Refused refusal)) h reading read = one_long (ltb (length body) 2) body reading (Err refusal) (reads body reading read) h
-answered_only body (Err faults.Memory) h reading read = tt
+-- octets are read in one way
+abbrev pub ReadsOnce : Type 0
+ReadsOnce = (body : List ℕ) (a b : Result MultiLink Refusal) → ReadAs body a → ReadAs body b → a ≡ b
+
+pub answered_only : ReadsOnce → (body : List ℕ) (answer : Result MultiLink Fault) → Answers answer (ReadAs body) → (reading : Result MultiLink Refusal) → ReadAs body reading → AnswersOnly answer reading
+answered_only once body (Ok value) h reading read = once body reading (Ok value) read h
+answered_only once body (Err (faults.Refused refusal)) h reading read = once body reading (Err refusal) read h
+answered_only once body (Err faults.Memory) h reading read = tt

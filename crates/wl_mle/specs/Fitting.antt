@@ -1,12 +1,12 @@
 -- The tests of a value, and how long it is as written.
-use Rattle.std.specs.Prelude.{ℕ, ◌+◌, ◌*◌, ◌/◌, ◌<◌, nat_le, if◌then◌else◌, List, [], ◌∷◌, length, map, IfSome}
+use Rattle.std.specs.Prelude.{ℕ, ◌+◌, ◌<◌, length, map, IfSome}
+use Rattle.wl_elem.specs.Items.{items_len}
 use Rattle.wl_mle.specs.declared.basic.Common.{Common}
 use Rattle.wl_mle.specs.declared.profile.Profile.{Profile}
 use Rattle.wl_mle.specs.declared.reconf.Reconf.{Reconf}
 use Rattle.wl_mle.specs.declared.change.LinkChange.{LinkChange}
 use Rattle.wl_mle.specs.declared.multi_link.MultiLink.{MultiLink}
 use Rattle.wl_mle.specs.declared.multi_link.MultiLink.TheVariants as elements
-use Rattle.wl_mle.specs.declared.subelement.Subelement.{Subelement}
 use Rattle.wl_mle.specs.Fields.{Fits}
 use Rattle.wl_mle.specs.Layout.{basic_fields, reconf_fields}
 use Rattle.wl_mle.specs.MultiLink.{IsAddress, basic_sub, reconf_sub}
@@ -43,17 +43,8 @@ pub record ChangeTyped (c : LinkChange) : Type 0 where
   pub mac : IfSome c.mac IsAddress
   pub timer : Fits 2 c.timer
 
--- how many octets the pieces of so many octets have
-abbrev pub written_len : ℕ → ℕ
-written_len len = if nat_le len 255 then len + 2 else len + 2 * ((len + 254) / 255)
-
--- how many octets the subelements are written in
-abbrev pub subs_len : List Subelement → ℕ
-subs_len [] = 0
-subs_len (s ∷ list) = written_len (length s.octets) + subs_len list
-
 -- how many octets the value is written in
 abbrev pub value_len : MultiLink → ℕ
-value_len (elements.Basic b) = 3 + known_len (basic_fields b.common) + length b.common.tail + subs_len (map basic_sub b.subs)
-value_len (elements.Reconfiguration r) = 3 + known_len (reconf_fields r) + length r.tail + subs_len (map reconf_sub r.subs)
+value_len (elements.Basic b) = 3 + known_len (basic_fields b.common) + length b.common.tail + items_len (map basic_sub b.subs)
+value_len (elements.Reconfiguration r) = 3 + known_len (reconf_fields r) + length r.tail + items_len (map reconf_sub r.subs)
 value_len (elements.Other control body) = 2 + length body

@@ -1,5 +1,4 @@
 pub mod Fields
-pub mod Subelements
 pub mod Layout
 pub mod MultiLink
 pub mod Reading

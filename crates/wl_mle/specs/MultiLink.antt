@@ -1,15 +1,19 @@
 -- The Multi-Link element (IEEE Std 802.11be, 9.4.2.312), as its body: the control word, for the types
 -- Basic and Reconfiguration Common Info and subelements, for the others the octets as they are. A
--- subelement of ID 0 is a profile: its control word, STA Info, and its body.
+-- subelement of ID 0 is a profile: its control word, STA Info, and its body. Subelements (9.4.2.312.2.4
+-- and 9.4.2.312.4) are cut as elements are, with 254 as the ID of a Fragment and all octets counted as
+-- content.
 use Rattle.std.specs.Prelude.{◌≡◌, ◌≢◌, ℕ, suc, ◌+◌, ◌%◌, ◌<◌, ◌≤◌, ◌==◌, ◌⊎◌, ◌&&◌, nat_lt, if◌then◌else◌, is_some, Bool, true, false, List, [], ◌∷◌, ◌++◌, length, drop, slice_index, map, Option, Some, None, IfSome, Result, Ok, Err}
 use Rattle.std.specs.List.{AllByRecursion}
 use Rattle.wl_elem.specs.declared.why.Why.{Why}
 use Rattle.wl_elem.specs.declared.why.Why.TheVariants.{ControlShort, CommonShort, CommonLong, ReservedLink, InfoShort, InfoLong}
 use Rattle.wl_elem.specs.declared.fault.Refusal.{Refusal}
 use Rattle.wl_elem.specs.declared.kind.ListKind.TheVariants.{Subelements}
+use Rattle.wl_elem.specs.declared.item.Item.{Item}
 use Rattle.wl_elem.specs.Answers.{refusal_at}
 use Rattle.wl_elem.specs.Octets.{octets_of}
 use Rattle.wl_elem.specs.Row.{IsCutOff}
+use Rattle.wl_elem.specs.Items.{Items}
 use Rattle.wl_mle.specs.declared.basic.Basic.{Basic}
 use Rattle.wl_mle.specs.declared.basic.BasicSub.{BasicSub}
 use Rattle.wl_mle.specs.declared.basic.BasicSub.TheVariants as basics
@@ -20,10 +24,8 @@ use Rattle.wl_mle.specs.declared.reconf.ReconfSub.TheVariants as reconfs
 use Rattle.wl_mle.specs.declared.change.LinkChange.{LinkChange}
 use Rattle.wl_mle.specs.declared.multi_link.MultiLink.{MultiLink}
 use Rattle.wl_mle.specs.declared.multi_link.MultiLink.TheVariants as elements
-use Rattle.wl_mle.specs.declared.subelement.Subelement.{Subelement}
 use Rattle.wl_mle.specs.Fields.{has_bit, Fits, known, info_text, need, info_fault, behind_info, word_of}
 use Rattle.wl_mle.specs.Layout.{basic_slots, reconf_slots, profile_slots, change_slots, nstr_width, basic_fields, reconf_fields, profile_fields, change_fields, basic_control, reconf_control, profile_control, change_control, basic_spare, reconf_spare}
-use Rattle.wl_mle.specs.Subelements.{Subs}
 
 -- an Info field is no longer than its length octet can say
 abbrev pub IsShort : List (Option (List ℕ)) → List ℕ → Type 0
@@ -65,11 +67,11 @@ pub record IsChange (c : LinkChange) : Type 0 where
 
 -- ---- subelements
 
-abbrev pub subelement : ℕ → List ℕ → Subelement
+abbrev pub subelement : ℕ → List ℕ → Item
 subelement id octets = record { id = id; octets = octets }
 
 -- the subelement that is written
-abbrev pub basic_sub : BasicSub → Subelement
+abbrev pub basic_sub : BasicSub → Item
 basic_sub (basics.Profile p) = subelement 0 (profile_text p)
 basic_sub (basics.Other id body) = subelement id body
 
@@ -80,7 +82,7 @@ abbrev pub IsBasicSub : BasicSub → Type 0
 IsBasicSub (basics.Profile p) = IsProfile p
 IsBasicSub (basics.Other id body) = IsOtherId id
 
-abbrev pub reconf_sub : ReconfSub → Subelement
+abbrev pub reconf_sub : ReconfSub → Item
 reconf_sub (reconfs.Change c) = subelement 0 (change_text c)
 reconf_sub (reconfs.Other id body) = subelement id body
 
@@ -131,7 +133,7 @@ IsMultiLink (elements.Other control body) = IsOther control
 
 -- the subelements that are written, and what the body begins with
 
-abbrev pub subs_of : MultiLink → List Subelement
+abbrev pub subs_of : MultiLink → List Item
 subs_of (elements.Basic b) = map basic_sub b.subs
 subs_of (elements.Reconfiguration r) = map reconf_sub r.subs
 subs_of (elements.Other control body) = []
@@ -146,7 +148,7 @@ spelling (elements.Other control body) subs = octets_of 2 control ++ body
 pub record MlOf (value : MultiLink) (body : List ℕ) : Type 0 where
   pub is_value : IsMultiLink value
   pub subs : List ℕ
-  pub cut : Subs (subs_of value) subs
+  pub cut : Items Subelements (subs_of value) subs
   pub text : body ≡ spelling value subs
 
 -- some body, no longer than an element's may be, is this value's
@@ -170,7 +172,7 @@ word_fault slots control rest = link_fault control (fault_behind (info_fault Inf
 abbrev pub profile_fault : (ℕ → List (Bool × ℕ)) → List ℕ → Option (ℕ × Why)
 profile_fault slots octets = if nat_lt (length octets) 3 then Some (0, InfoShort) else word_fault slots (word_of octets) (drop 2 octets)
 
-abbrev pub sub_fault : (ℕ → List (Bool × ℕ)) → Subelement → Option (ℕ × Why)
+abbrev pub sub_fault : (ℕ → List (Bool × ℕ)) → Item → Option (ℕ × Why)
 sub_fault slots s = if s.id == 0 then profile_fault slots s.octets else None
 
 -- the refusal at this place of that subelement
@@ -182,7 +184,7 @@ abbrev pub first_refused : ℕ → Option (ℕ × Why) → Option Refusal → Op
 first_refused sub (Some fault) others = Some (sub_refusal sub fault.0 fault.1)
 first_refused sub None others = others
 
-abbrev pub subs_refusal : (ℕ → List (Bool × ℕ)) → ℕ → List Subelement → Option Refusal
+abbrev pub subs_refusal : (ℕ → List (Bool × ℕ)) → ℕ → List Item → Option Refusal
 subs_refusal slots sub [] = None
 subs_refusal slots sub (s ∷ list) = first_refused sub (sub_fault slots s) (subs_refusal slots (suc sub) list)
 
@@ -212,8 +214,8 @@ pub record CutRefused (rest : List ℕ) (refusal : Refusal) : Type 0 where
   pub is_at : refusal ≡ refusal_at place refusal.why
 
 pub record ProfileRefused (slots : ℕ → List (Bool × ℕ)) (rest : List ℕ) (refusal : Refusal) : Type 0 where
-  pub list : List Subelement
-  pub cut : Subs list (behind_info rest)
+  pub list : List Item
+  pub cut : Items Subelements list (behind_info rest)
   pub first : subs_refusal slots 0 list ≡ Some refusal
 
 abbrev pub IsRefused : Option Refusal → (ℕ → List (Bool × ℕ)) → List ℕ → Refusal → Type 0

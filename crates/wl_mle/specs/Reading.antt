@@ -2,8 +2,11 @@
 use Rattle.std.specs.Prelude.{◌≡◌, ℕ, zero, suc, ◌-◌, ◌/◌, ◌%◌, ◌==◌, ◌⊎◌, nat_lt, if◌then◌else◌, Bool, true, false, List, [], ◌∷◌, length, take, drop, map, Option, Some, None, Result, Ok, Err}
 use Rattle.wl_elem.specs.declared.why.Why.TheVariants.{ControlShort}
 use Rattle.wl_elem.specs.declared.fault.Refusal.{Refusal}
+use Rattle.wl_elem.specs.declared.kind.ListKind.TheVariants.{Subelements}
+use Rattle.wl_elem.specs.declared.item.Item.{Item}
 use Rattle.wl_elem.specs.Answers.{refusal_at}
 use Rattle.wl_elem.specs.Octets.{number}
+use Rattle.wl_elem.specs.Items.{Items}
 use Rattle.wl_mle.specs.declared.basic.Basic.{Basic}
 use Rattle.wl_mle.specs.declared.basic.Common.{Common}
 use Rattle.wl_mle.specs.declared.basic.BasicSub.{BasicSub}
@@ -15,10 +18,8 @@ use Rattle.wl_mle.specs.declared.reconf.ReconfSub.TheVariants as reconfs
 use Rattle.wl_mle.specs.declared.change.LinkChange.{LinkChange}
 use Rattle.wl_mle.specs.declared.multi_link.MultiLink.{MultiLink}
 use Rattle.wl_mle.specs.declared.multi_link.MultiLink.TheVariants as elements
-use Rattle.wl_mle.specs.declared.subelement.Subelement.{Subelement}
 use Rattle.wl_mle.specs.Fields.{has_bit, octets_in, behind_info, word_of}
 use Rattle.wl_mle.specs.Layout.{basic_slots, reconf_slots, profile_slots, change_slots, basic_spare, reconf_spare}
-use Rattle.wl_mle.specs.Subelements.{Subs}
 use Rattle.wl_mle.specs.MultiLink.{subs_refusal, basic_fault, reconf_fault, CutRefused}
 
 -- ---- fields
@@ -130,10 +131,10 @@ change_behind control rest = change_of control (fields_at (change_slots control)
 
 -- ---- subelements
 
-abbrev pub basic_sub_at : Subelement → BasicSub
+abbrev pub basic_sub_at : Item → BasicSub
 basic_sub_at s = if s.id == 0 then basics.Profile (profile_behind (word_of s.octets) (drop 2 s.octets)) else basics.Other s.id s.octets
 
-abbrev pub reconf_sub_at : Subelement → ReconfSub
+abbrev pub reconf_sub_at : Item → ReconfSub
 reconf_sub_at s = if s.id == 0 then reconfs.Change (change_behind (word_of s.octets) (drop 2 s.octets)) else reconfs.Other s.id s.octets
 
 -- ---- the element
@@ -144,19 +145,19 @@ unless_refused (Some refusal) value = Err refusal
 unless_refused None value = Ok value
 
 -- what is read where these are the subelements
-abbrev pub basic_with : ℕ → List ℕ → List Subelement → Result MultiLink Refusal
+abbrev pub basic_with : ℕ → List ℕ → List Item → Result MultiLink Refusal
 basic_with control rest list = unless_refused (subs_refusal profile_slots 0 list) (elements.Basic (basic_of control (common_at control rest) (map basic_sub_at list)))
 
-abbrev pub reconf_with : ℕ → List ℕ → List Subelement → Result MultiLink Refusal
+abbrev pub reconf_with : ℕ → List ℕ → List Item → Result MultiLink Refusal
 reconf_with control rest list = unless_refused (subs_refusal change_slots 0 list) (elements.Reconfiguration (reconf_at control rest (map reconf_sub_at list)))
 
 -- what is read of the subelements behind Common Info: the first piece that is refused, or else what
 -- is made of them
-abbrev pub ReadsSubs : (List Subelement → Result MultiLink Refusal) → List ℕ → Result MultiLink Refusal → Type 0
-ReadsSubs make rest reading = ((refusal : Refusal) × (reading ≡ Err refusal) × CutRefused rest refusal) ⊎ ((list : List Subelement) × Subs list (behind_info rest) × (reading ≡ make list))
+abbrev pub ReadsSubs : (List Item → Result MultiLink Refusal) → List ℕ → Result MultiLink Refusal → Type 0
+ReadsSubs make rest reading = ((refusal : Refusal) × (reading ≡ Err refusal) × CutRefused rest refusal) ⊎ ((list : List Item) × Items Subelements list (behind_info rest) × (reading ≡ make list))
 
 -- what is read, unless Common Info is refused
-abbrev pub ReadsBehind : Option Refusal → (List Subelement → Result MultiLink Refusal) → List ℕ → Result MultiLink Refusal → Type 0
+abbrev pub ReadsBehind : Option Refusal → (List Item → Result MultiLink Refusal) → List ℕ → Result MultiLink Refusal → Type 0
 ReadsBehind (Some refusal) make rest reading = reading ≡ Err refusal
 ReadsBehind None make rest reading = ReadsSubs make rest reading
 

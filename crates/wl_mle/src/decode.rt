@@ -5,28 +5,30 @@ ghost use Rattle.wl_elem.specs.declared.fault.Refusal.{Refusal};
 ghost use Rattle.wl_elem.specs.declared.why.Why.{Why};
 ghost use Rattle.wl_elem.specs.declared.fault.Fault.TheVariants.{Refused};
 ghost use Rattle.wl_elem.specs.Answers.{Answers, AnswersOnly, refusal_at};
+ghost use Rattle.wl_elem.specs.Block.{IsWithin, IsStoppedAs};
 ghost use Rattle.wl_elem.specs.Element.{HasIdentity, body_limit};
 ghost use Rattle.wl_mle.specs.declared.multi_link.MultiLink.{MultiLink};
 ghost use Rattle.wl_mle.specs.Fields.{has_bit, word_of, width_if, need};
 ghost use Rattle.wl_mle.specs.Layout.{basic_slots, reconf_slots, profile_slots, change_slots, basic_spare, reconf_spare};
 ghost use Rattle.wl_mle.specs.MultiLink.{word_fault, profile_fault, sub_fault, sub_refusal, first_refused, subs_refusal, basic_fault, reconf_fault, ReadAs};
 ghost use Rattle.wl_mle.specs.Reading.{fields_at, after_fields, common_of, reconf_of, profile_of, change_of, profile_behind, change_behind, basic_sub_at, reconf_sub_at, basic_with, reconf_with, ReadsBehind, ReadsWord, ReadsBody};
-ghost use Rattle.wl_mle.specs.Stops.{IsWithin, IsStoppedAs, IsSubStopped, IsFault};
+ghost use Rattle.wl_mle.specs.Stops.{IsSubStopped, IsFault};
 
 use crate::basic::{Basic, BasicSub, BasicSubs, Common};
 use crate::change::LinkChange;
-use crate::cut::subelements_of;
 use crate::fields::{
     basic_need, change_need, control_of, has_bit, has_nstr, info_of, mac_at, mac_if, nstr_if,
     profile_need, reconf_need, u8_if, u16_if, u64_if,
 };
+use crate::laws::read_once;
 use crate::multi_link::MultiLink;
 use crate::profile::Profile;
 use crate::reconf::{Reconf, ReconfSub, ReconfSubs};
-use crate::stop::{Stop, SubStop};
-use crate::subelement::Subelement;
+use crate::stop::SubStop;
 use std::alloc::Global;
-use wl_elem::{Bytes, Element, Fault, LinkId, Memory, Refusal, Why};
+use wl_elem::{
+    Bytes, Element, Fault, Item, LinkId, ListKind, Memory, Refusal, Stop, Why, cut_items,
+};
 
 /// The fields of Common Info of a Basic element.
 fn common_of(alloc: Global, control: u16, area: &[u8]) -> Result<Common, Memory>
@@ -186,7 +188,7 @@ fn read_change(alloc: Global, octets: &[u8]) -> Result<LinkChange, SubStop>
 }
 
 /// Reads a subelement of a Basic element.
-fn read_basic_sub(alloc: Global, s: &Subelement) -> Result<BasicSub, SubStop>
+fn read_basic_sub(alloc: Global, s: &Item) -> Result<BasicSub, SubStop>
     ensures sound { IfOk result (λ sub. sub_fault profile_slots s.now ≡ None) }
     ensures value { IfOk result (λ sub. sub ≡ basic_sub_at s.now) }
     ensures stopped { IfErr result (λ stop. IsSubStopped (sub_fault profile_slots s.now) stop) }
@@ -202,7 +204,7 @@ fn read_basic_sub(alloc: Global, s: &Subelement) -> Result<BasicSub, SubStop>
 }
 
 /// Reads a subelement of a Reconfiguration element.
-fn read_reconf_sub(alloc: Global, s: &Subelement) -> Result<ReconfSub, SubStop>
+fn read_reconf_sub(alloc: Global, s: &Item) -> Result<ReconfSub, SubStop>
     ensures sound { IfOk result (λ sub. sub_fault change_slots s.now ≡ None) }
     ensures value { IfOk result (λ sub. sub ≡ reconf_sub_at s.now) }
     ensures stopped { IfErr result (λ stop. IsSubStopped (sub_fault change_slots s.now) stop) }
@@ -235,7 +237,7 @@ fn sub_fault_of(sub: usize, stop: SubStop) -> Fault
 }
 
 /// Reads the subelements of a Basic element.
-fn read_basic_subs(alloc: Global, list: &[Subelement]) -> Result<BasicSubs, Fault>
+fn read_basic_subs(alloc: Global, list: &[Item]) -> Result<BasicSubs, Fault>
     requires { length list.now < 2 ^ 32 }
     ensures sound { IfOk result (λ subs. subs_refusal profile_slots 0 list.now ≡ None) }
     ensures value { IfOk result (λ subs. subs ≡ map basic_sub_at list.now) }
@@ -253,7 +255,7 @@ fn read_basic_subs(alloc: Global, list: &[Subelement]) -> Result<BasicSubs, Faul
 }
 
 /// Reads the subelements of a Reconfiguration element.
-fn read_reconf_subs(alloc: Global, list: &[Subelement]) -> Result<ReconfSubs, Fault>
+fn read_reconf_subs(alloc: Global, list: &[Item]) -> Result<ReconfSubs, Fault>
     requires { length list.now < 2 ^ 32 }
     ensures sound { IfOk result (λ subs. subs_refusal change_slots 0 list.now ≡ None) }
     ensures value { IfOk result (λ subs. subs ≡ map reconf_sub_at list.now) }
@@ -335,7 +337,7 @@ fn read_basic(alloc: Global, control: u16, rest: &[u8]) -> Result<MultiLink, Fau
     if has_reserved_link(control, rest) {
         return Err(refused(9, Why::ReservedLink));
     }
-    let list = match subelements_of(alloc, behind) {
+    let list = match cut_items(alloc, ListKind::Subelements, behind) {
         Ok(list) => list,
         Err(stop) => return Err(fault_of(rest.len() + 2, stop)),
     };
@@ -383,7 +385,7 @@ fn read_reconf(alloc: Global, control: u16, rest: &[u8]) -> Result<MultiLink, Fa
         Ok(parts) => parts,
         Err(why) => return Err(refused(2, why)),
     };
-    let list = match subelements_of(alloc, behind) {
+    let list = match cut_items(alloc, ListKind::Subelements, behind) {
         Ok(list) => list,
         Err(stop) => return Err(fault_of(rest.len() + 2, stop)),
     };
@@ -425,6 +427,8 @@ fn decode_body(alloc: Global, body: &[u8]) -> Result<MultiLink, Fault>
     ensures read { Answers result (ReadAs body.now) }
     ensures only { (reading : Result MultiLink Refusal) → ReadAs body.now reading → AnswersOnly result reading }
 {
+    read_once();
+    wl_elem::items_are_octets();
     value_of_body(alloc, body)
 }
 

@@ -2,23 +2,25 @@
 
 ghost use Rattle.std.specs.Prelude.{IfSome, ◌≡◌, ◌≢◌, ◌≤◌, ◌<◌, ◌^◌, ◌+◌, ◌++◌, ◌∷◌, [], ℕ, List, Option, Some, IfOk, OnOk, length, map};
 ghost use Rattle.std.specs.List.{AllByRecursion};
-ghost use Rattle.wl_elem.specs.Cutting.{piece};
+ghost use Rattle.wl_elem.specs.declared.kind.ListKind.TheVariants.{Subelements};
 ghost use Rattle.wl_elem.specs.Element.{HasIdentity};
+ghost use Rattle.wl_elem.specs.Items.{AddsItem};
 ghost use Rattle.wl_elem.specs.Octets.{octets_of};
 ghost use Rattle.wl_mle.specs.declared.multi_link.MultiLink.TheVariants as elements;
 ghost use Rattle.wl_mle.specs.Fitting.{CommonTyped, ReconfTyped};
 ghost use Rattle.wl_mle.specs.Fields.{Fits, field, octets_in, known, info};
 ghost use Rattle.wl_mle.specs.Layout.{basic_fields, reconf_fields, profile_fields, change_fields, basic_control, reconf_control, profile_control, change_control, nstr_width};
-ghost use Rattle.wl_mle.specs.MultiLink.{IsAddress, IsBasic, IsReconf, IsProfile, IsChange, IsOther, IsBasicSub, IsReconfSub, IsMultiLink, IsWritable, MlOf, profile_text, change_text, subelement, basic_sub, reconf_sub};
-ghost use Rattle.wl_mle.specs.Writing.{known_len, AddsFragments, AddsSub, AddsSubs};
+ghost use Rattle.wl_mle.specs.MultiLink.{IsAddress, IsBasic, IsReconf, IsProfile, IsChange, IsOther, IsBasicSub, IsReconfSub, IsMultiLink, IsWritable, MlOf, profile_text, change_text, basic_sub, reconf_sub};
+ghost use Rattle.wl_mle.specs.Writing.{known_len, AddsSubs};
 
 use crate::basic::{Basic, BasicSub, Common};
 use crate::change::LinkChange;
+use crate::laws::spelled_once;
 use crate::multi_link::MultiLink;
 use crate::profile::Profile;
 use crate::reconf::{Reconf, ReconfSub};
 use std::alloc::Global;
-use wl_elem::{Bytes, Element, MacAddr, Memory};
+use wl_elem::{Bytes, Element, ListKind, MacAddr, Memory, put_item};
 
 /// A control word.
 fn put_word(out: &mut Bytes, word: u16) -> Result<(), Memory>
@@ -324,66 +326,31 @@ fn change_octets(alloc: Global, c: &LinkChange) -> Result<Bytes, Memory>
     Ok(out)
 }
 
-/// Octets as one piece.
-fn put_piece(out: &mut Bytes, id: u8, octets: &[u8]) -> Result<(), Memory>
-    requires { length octets.now ≤ 255 }
-    ensures { OnOk result (out.new ≡ out.old ++ piece id octets.now) }
-{
-    out.push(id)?;
-    out.push(octets.len() as u8)?;
-    out.extend(octets)?;
-    Ok(())
-}
-
-/// What the first piece of a subelement left, as Fragments of at most 255 octets.
-fn put_fragments(out: &mut Bytes, octets: &[u8]) -> Result<(), Memory>
-    ensures { OnOk result (AddsFragments octets.now out.old out.new) }
-{
-    let mut rest = octets;
-    'fragments: while !rest.is_empty() {
-        let (part, after) = rest.split_at(rest.len().min(255));
-        put_piece(out, 254, part)?;
-        rest = after;
-    }
-    Ok(())
-}
-
-/// A subelement: its first piece, and Fragments for what one piece doesn't hold.
-fn put_subelement(out: &mut Bytes, id: u8, octets: &[u8]) -> Result<(), Memory>
-    requires { id ≢ 254 }
-    ensures { OnOk result (AddsSub (subelement id octets.now) out.old out.new) }
-{
-    let (first, rest) = octets.split_at(octets.len().min(255));
-    put_piece(out, id, first)?;
-    put_fragments(out, rest)?;
-    Ok(())
-}
-
 /// A subelement of a Basic element.
 fn put_basic_sub(alloc: Global, out: &mut Bytes, sub: &BasicSub) -> Result<(), Memory>
     requires { IsBasicSub sub.now }
-    ensures { OnOk result (AddsSub (basic_sub sub.now) out.old out.new) }
+    ensures { OnOk result (AddsItem Subelements (basic_sub sub.now) out.old out.new) }
 {
     match sub {
         BasicSub::Profile(p) => {
             let octets = profile_octets(alloc, p)?;
-            put_subelement(out, 0, octets.as_slice())
+            put_item(out, ListKind::Subelements, 0, octets.as_slice())
         }
-        BasicSub::Other { id, body } => put_subelement(out, *id, body.as_slice()),
+        BasicSub::Other { id, body } => put_item(out, ListKind::Subelements, *id, body.as_slice()),
     }
 }
 
 /// A subelement of a Reconfiguration element.
 fn put_reconf_sub(alloc: Global, out: &mut Bytes, sub: &ReconfSub) -> Result<(), Memory>
     requires { IsReconfSub sub.now }
-    ensures { OnOk result (AddsSub (reconf_sub sub.now) out.old out.new) }
+    ensures { OnOk result (AddsItem Subelements (reconf_sub sub.now) out.old out.new) }
 {
     match sub {
         ReconfSub::Change(c) => {
             let octets = change_octets(alloc, c)?;
-            put_subelement(out, 0, octets.as_slice())
+            put_item(out, ListKind::Subelements, 0, octets.as_slice())
         }
-        ReconfSub::Other { id, body } => put_subelement(out, *id, body.as_slice()),
+        ReconfSub::Other { id, body } => put_item(out, ListKind::Subelements, *id, body.as_slice()),
     }
 }
 
@@ -485,12 +452,13 @@ fn body_of(alloc: Global, value: &MultiLink) -> Result<Bytes, Memory>
 
 /// The one element of this value, which is well formed: `MultiLink::well_formed` says true of it. Its
 /// identity is 255/107. `Memory` where there was none for the body.
-#[tactic(auto, using(crate::proofs::Writing::is_within, crate::proofs::Writing::is_multi_link))]
+#[tactic(auto, using(crate::proofs::Writing::is_multi_link))]
 pub fn encode_ml(alloc: Global, value: &MultiLink) -> Result<Element, Memory>
     requires { IsWritable value.now }
     ensures identity { IfOk result (λ e. HasIdentity e 255 (Some 107)) }
     ensures written { IfOk result (λ e. MlOf value.now e.body) }
 {
+    spelled_once();
     let body = body_of(alloc, value)?;
     match Element::new(255, Some(107), body) {
         Some(element) => Ok(element),

@@ -2,8 +2,9 @@
 
 ghost use Rattle.std.specs.Prelude.{◌≡◌, ◌≢◌, ◌↔◌, ◌+◌, ◌≤◌, ◌<◌, ◌%◌, ◌&&◌, IsTrue, IsSome, IfSome, length, map, is_some};
 ghost use Rattle.std.specs.List.{AllByRecursion};
+ghost use Rattle.wl_elem.specs.Items.{written_len, items_len};
 ghost use Rattle.wl_mle.specs.Fields.{Fits};
-ghost use Rattle.wl_mle.specs.Fitting.{ProfileTyped, ChangeTyped, written_len, subs_len, value_len};
+ghost use Rattle.wl_mle.specs.Fitting.{ProfileTyped, ChangeTyped, value_len};
 ghost use Rattle.wl_mle.specs.Layout.{nstr_width, basic_spare, reconf_spare};
 ghost use Rattle.wl_mle.specs.MultiLink.{IsBasic, IsReconf, IsProfile, IsChange, IsOther, IsOtherId, IsBasicSub, IsReconfSub, IsMultiLink, basic_sub, reconf_sub};
 
@@ -263,7 +264,7 @@ fn reconf_sub_room(sub: &ReconfSub, room: usize) -> Option<usize>
 fn basic_subs_within(subs: &[BasicSub], room: usize) -> bool
     requires are { AllByRecursion IsBasicSub subs.now }
     requires room { room ≤ 16777216 }
-    ensures { IsTrue result ↔ (subs_len (map basic_sub subs.now) ≤ room) }
+    ensures { IsTrue result ↔ (items_len (map basic_sub subs.now) ≤ room) }
 {
     let mut left = room;
     'subs: for i in 0..subs.len() {
@@ -279,7 +280,7 @@ fn basic_subs_within(subs: &[BasicSub], room: usize) -> bool
 fn reconf_subs_within(subs: &[ReconfSub], room: usize) -> bool
     requires are { AllByRecursion IsReconfSub subs.now }
     requires room { room ≤ 16777216 }
-    ensures { IsTrue result ↔ (subs_len (map reconf_sub subs.now) ≤ room) }
+    ensures { IsTrue result ↔ (items_len (map reconf_sub subs.now) ≤ room) }
 {
     let mut left = room;
     'subs: for i in 0..subs.len() {

@@ -3,7 +3,6 @@
 
 mod basic;
 mod change;
-mod cut;
 mod decode;
 mod encode;
 mod fields;
@@ -13,7 +12,6 @@ mod multi_link;
 mod profile;
 mod reconf;
 mod stop;
-mod subelement;
 
 pub use basic::{Basic, BasicSub, BasicSubs, Common};
 pub use change::LinkChange;

@@ -26,11 +26,13 @@ impl MultiLink {
     /// bitmap is there exactly where `complete` and `pair` are set and below 256 unless `wide`, no other
     /// subelement has ID 0 or 254, `Other` has neither type 0 nor type 2, an Info field has at most 255
     /// octets, and the body at most 16,777,216. It takes no memory and always answers Ok.
-    #[tactic(auto, using(crate::proofs::Writing::is_multi_link, crate::proofs::Lengths::is_writable, crate::proofs::Lengths::is_not_too_long))]
+    #[tactic(auto, using(crate::proofs::Writing::is_multi_link))]
     pub fn well_formed(&self) -> Result<bool, Memory>
         ensures answers { IsOk result }
         ensures exact { IfOk result (λ answer. IsTrue answer ↔ IsWritable self.now) }
     {
+        wl_elem::items_spelled();
+        wl_elem::items_length();
         if !value_fits(self) {
             return Ok(false);
         }

@@ -286,6 +286,68 @@ fn refused_bodies(rt: HostRuntime) {
 }
 
 #[test]
+fn an_empty_fragment_among_subelements(rt: HostRuntime) -> Result<(), Fail> {
+    let alloc = rt.alloc();
+    // A subelement of 255 octets, and an empty Fragment behind it, of a Basic and a Reconfiguration element.
+    let heads: [(&[u8], u32); 2] = [
+        (&[0, 0, 7, 2, 0, 0, 0, 0, 1, 221, 255], 266),
+        (&[2, 0, 1, 221, 255], 260),
+    ];
+    for (head, place) in heads {
+        let mut body = Bytes::from_slice(alloc, head)?;
+        body.extend(&[0; 255])?;
+        assert!(rt; read(alloc, body.as_slice()).is_some());
+        body.extend(&[254, 0])?;
+        let refusal = Refusal {
+            element: None,
+            sub: None,
+            inner: None,
+            place,
+            why: Why::EmptyFragment,
+        };
+        assert_eq!(rt;
+            fault_of(alloc, body.as_slice()),
+            Some(Fault::Refused(refusal))
+        );
+    }
+    Ok(())
+}
+
+#[test]
+fn lists_of_subelements(rt: HostRuntime) -> Result<(), Fail> {
+    let alloc = rt.alloc();
+    let body = [0, 0, 7, 2, 0, 0, 0, 0, 1, 0, 3, 1, 0, 1, 221, 1, 5];
+    let Some(MultiLink::Basic(basic)) = read(alloc, &body) else {
+        return Err(Fail::from("a Basic element"));
+    };
+    assert_eq!(rt; basic.subs.as_slice().len(), 2);
+    assert!(rt; basic.subs.len() == 2 && !basic.subs.is_empty());
+    assert!(rt; matches!(basic.subs.get(0), Some(BasicSub::Profile(_))));
+    assert!(rt;
+        matches!(
+            basic.subs.get(1),
+            Some(BasicSub::Other { id: 221, body: _ })
+        )
+    );
+    assert!(rt; basic.subs.get(2).is_none());
+    let list = basic.subs.into_vec();
+    assert_eq!(rt; BasicSubs::from_vec(list).as_slice().len(), 2);
+    assert!(rt; BasicSubs::new(alloc).is_empty());
+    let body = [2, 0, 1, 0, 3, 1, 0, 1];
+    let Some(MultiLink::Reconfiguration(reconf)) = read(alloc, &body) else {
+        return Err(Fail::from("a Reconfiguration element"));
+    };
+    assert_eq!(rt; reconf.subs.as_slice().len(), 1);
+    assert!(rt; reconf.subs.len() == 1 && !reconf.subs.is_empty());
+    assert!(rt; matches!(reconf.subs.get(0), Some(ReconfSub::Change(_))));
+    assert!(rt; reconf.subs.get(1).is_none());
+    let list = reconf.subs.into_vec();
+    assert_eq!(rt; ReconfSubs::from_vec(list).as_slice().len(), 1);
+    assert!(rt; ReconfSubs::new(alloc).is_empty());
+    Ok(())
+}
+
+#[test]
 fn long_subelements_are_cut_and_joined(rt: HostRuntime) -> Result<(), Fail> {
     let alloc = rt.alloc();
     // The zero octets of the subelement, the length of the list, and its last three octets.

@@ -11,11 +11,12 @@ use Rattle.wl_history.specs.declared.step.Journal.{Journal}
 use Rattle.wl_scene.specs.Scene.{SceneOf}
 use Rattle.wl_top.specs.declared.ending.Outcome.{Outcome}
 use Rattle.wl_top.specs.declared.ending.Ending.{Ending}
-use Rattle.wl_top.specs.declared.ending.Ending.TheVariants.{Done, Usage, Refused, ReadFault as EndsReadFault, WriteFault, Forged, TooLong, Memory}
+use Rattle.wl_top.specs.declared.ending.Ending.TheVariants.{Done, Usage, Refused, ReadFault as EndsReadFault, WriteFault, Forged, CheckFailed, TooLong, Memory}
 use Rattle.wl_top.specs.declared.run.Task.{Task}
-use Rattle.wl_top.specs.declared.run.Task.TheVariants.{Decode, Simulate}
-use Rattle.wl_top.specs.Line.{lines_of}
-use Rattle.wl_top.specs.Decoded.{ShownLines, IsFirstBad}
+use Rattle.wl_top.specs.declared.run.Task.TheVariants.{Decode, Check, Simulate}
+use Rattle.wl_shown.specs.Line.{lines_of}
+use Rattle.wl_shown.specs.Decoded.{ShownLines, IsFirstBad}
+use Rattle.wl_shown.specs.Checked.{VerdictLines}
 use Rattle.wl_top.specs.Simulated.{IsHalfIf, IsWhole}
 
 -- what a run is given, and how it leaves source and sink: the words, the bytes left in the source
@@ -35,6 +36,7 @@ pub record Call : Type 0 where
 -- the word of a command
 abbrev pub task_word : Task → List ℕ
 task_word Decode = codes "decode"
+task_word Check = codes "check"
 task_word Simulate = codes "run"
 
 -- the words are those of the command
@@ -53,6 +55,7 @@ outcome_of (Refused place) journal = record { status = 2; place = place; journal
 outcome_of EndsReadFault journal = record { status = 3; place = 0; journal = journal }
 outcome_of (WriteFault taken) journal = record { status = 4; place = taken; journal = journal }
 outcome_of (Forged count) journal = record { status = 5; place = count; journal = journal }
+outcome_of (CheckFailed line) journal = record { status = 7; place = line; journal = journal }
 outcome_of (TooLong count) journal = record { status = 8; place = count; journal = journal }
 outcome_of Memory journal = record { status = 9; place = 0; journal = journal }
 
@@ -85,6 +88,25 @@ DecodeEnds call Done = (shown : List ℕ) × IsShown call shown × Takes call.ta
 DecodeEnds call (WriteFault count) = (shown : List ℕ) × IsShown call shown × IsWriteFault call.taken call.taken' call.write_faults call.write_faults' shown count
 DecodeEnds call other = UnreadEnds call other
 
+-- ---- check
+
+-- the whole input was read, and these are the verdicts on its lines, of which this is the first
+-- refused
+abbrev pub IsChecked : Call → List ℕ → Option ℕ → Type 0
+IsChecked call verdicts refused = (text : List ℕ) × IsInput call text × VerdictLines (lines_of text) verdicts refused
+
+abbrev pub CheckEnds : Call → Ending → Type 0
+CheckEnds call (Refused line) = (text : List ℕ) × IsInput call text × IsFirstBad (lines_of text) line × IsUnwritten call
+CheckEnds call Done = (verdicts : List ℕ) × IsChecked call verdicts None × Takes call.taken call.taken' verdicts
+CheckEnds call (CheckFailed line) = (verdicts : List ℕ) × IsChecked call verdicts (Some line) × Takes call.taken call.taken' verdicts
+CheckEnds call (WriteFault count) = (verdicts : List ℕ) × (refused : Option ℕ) × IsChecked call verdicts refused × IsWriteFault call.taken call.taken' call.write_faults call.write_faults' verdicts count
+CheckEnds call other = UnreadEnds call other
+
+-- the ending of verdicts that were written
+abbrev pub verdict_ending : Option ℕ → Ending
+verdict_ending None = Done
+verdict_ending (Some line) = CheckFailed line
+
 -- ---- run
 
 -- the history of the scenario that was read, how it ended, and its texts
@@ -114,12 +136,15 @@ pub record SameRun (e e' : Ending) (j j' : Option Journal) (out out' : List ℕ)
   pub journal_same : j ≡ j'
   pub text_same : out ≡ out'
 
--- ---- both
+-- ---- all
 
 -- the causes of an ending, and what it leaves
 abbrev pub Ends : Call → Option Journal → Ending → Type 0
 Ends call journal Usage = ((task : Task) → IsTask call.words task → ⊥) × IsUnwritten call × (journal ≡ None)
-Ends call journal other = (IsTask call.words Decode × DecodeEnds call other × (journal ≡ None)) ⊎ (IsTask call.words Simulate × RunEnds call journal other)
+Ends call journal other =
+    (IsTask call.words Decode × DecodeEnds call other × (journal ≡ None))
+    ⊎ ((IsTask call.words Check × CheckEnds call other × (journal ≡ None))
+    ⊎ (IsTask call.words Simulate × RunEnds call journal other))
 
 -- the outcome is that of an ending whose causes are there
 abbrev pub IsOutcome : Call → Outcome → Type 0

@@ -5,21 +5,23 @@ ghost use Rattle.std.specs.String.{string_bytes};
 ghost use Rattle.wl_frame.specs.Sealing.{Sealing};
 ghost use Rattle.wl_top.specs.declared.run.Task.{Task};
 ghost use Rattle.wl_top.specs.declared.run.Task.TheVariants.{Simulate as IsSimulate};
-ghost use Rattle.wl_top.specs.Run.{DecodeEnds, IsOutcome, IsReadEnding, IsTask, task_word};
+ghost use Rattle.wl_top.specs.Run.{CheckEnds, verdict_ending, DecodeEnds, IsOutcome, IsReadEnding, IsTask, task_word};
 ghost use Rattle.wl_top.specs.Simulated.{IsSafeIf};
 
-use crate::decode::{TextFault, shown_lines};
 use crate::ending::{Ending, Outcome};
 use crate::simulate::{Simulated, simulate};
 use std::alloc::Global;
 use wl_frame::Sealer;
 use wl_io::{ReadFault, Sink, Source, read_all, write_all};
+use wl_shown::{TextFault, checked_lines, shown_lines};
 
 /// The commands.
 #[derive(Clone, Copy, Debug, PartialEq, Eq)]
 pub enum Task {
     /// `decode`: show hex lines.
     Decode,
+    /// `check`: judge hex lines.
+    Check,
     /// `run`: do what a scenario asks for.
     Simulate,
 }
@@ -38,6 +40,9 @@ fn task_named(word: &String) -> Option<Task>
 {
     if is_word(word, "decode") {
         return Some(Task::Decode);
+    }
+    if is_word(word, "check") {
+        return Some(Task::Check);
     }
     if is_word(word, "run") {
         return Some(Task::Simulate);
@@ -97,6 +102,46 @@ fn decode<S: Source, K: Sink>(alloc: Global, source: &mut S, sink: &mut K) -> En
     }
 }
 
+/// The ending of verdicts that were written, where this line is the first refused.
+fn verdict_ending(refused: Option<u64>) -> Ending
+    ensures { result ≡ verdict_ending refused }
+{
+    match refused {
+        Some(line) => Ending::CheckFailed(line),
+        None => Ending::Done,
+    }
+}
+
+/// Judges hex lines.
+fn check<S: Source, K: Sink>(alloc: Global, source: &mut S, sink: &mut K) -> Ending
+    ensures { (words : List (List ℕ)) (text : Sealing) → CheckEnds (record {
+      words = words;
+      left = S.left source.old;
+      left' = S.left source.new;
+      read_faults = S.faults source.old;
+      read_faults' = S.faults source.new;
+      taken = K.taken sink.old;
+      taken' = K.taken sink.new;
+      write_faults = K.faults sink.old;
+      write_faults' = K.faults sink.new;
+      text = text;
+    }) result }
+{
+    let input = match read_all(alloc, source) {
+        Ok(input) => input,
+        Err(fault) => return unread(fault),
+    };
+    let verdicts = match checked_lines(alloc, input.as_slice()) {
+        Ok(verdicts) => verdicts,
+        Err(TextFault::NotHex(line)) => return Ending::Refused(line),
+        Err(TextFault::Memory) => return Ending::Memory,
+    };
+    match write_all(sink, verdicts.text.as_bytes()) {
+        Ok(()) => verdict_ending(verdicts.refused),
+        Err(fault) => Ending::WriteFault(fault.taken),
+    }
+}
+
 /// Does what a scenario asks for.
 fn run<S: Source, K: Sink, Z: Sealer>(
     alloc: Global,
@@ -139,6 +184,8 @@ fn run<S: Source, K: Sink, Z: Sealer>(
 /// Does what the words ask for: reads the source to its end, and writes to the sink.
 ///
 /// - `decode` reads hex lines and writes one shown text a line.
+/// - `check` reads hex lines and writes one verdict a line: `ok` and the number of octets, or the
+///   refusal; a line is refused exactly where `decode` shows it so.
 /// - `run` reads a scenario, and writes the journal of all steps and then the report. What is written
 ///   is the text of the one legal history that the scenario's commands make with this sealer, up to
 ///   the first frame that opens and was never booked; that history is safe.
@@ -168,6 +215,7 @@ pub fn mld_run<S: Source, K: Sink, Z: Sealer>(
 {
     match task_of(words) {
         Some(Task::Decode) => decode(alloc, source, sink).outcome(None),
+        Some(Task::Check) => check(alloc, source, sink).outcome(None),
         Some(Task::Simulate) => run(alloc, source, sink, sealer),
         None => Ending::Usage.outcome(None),
     }

@@ -1,5 +1,7 @@
 use super::*;
+use crate::tables::{ACTIONS, ASSOCIATIONS, ELEMENTS, FRAMES};
 use std::alloc::Global;
+use std::process::Abort;
 use std::test::Fail;
 use wl_elem::Bytes;
 use wl_frame::StandIn;
@@ -48,61 +50,36 @@ fn decode(alloc: Global, input: &[u8]) -> Result<Ran, Fail> {
     run_failing(alloc, &["decode"], input, none(alloc), none(alloc))
 }
 
-const LINES: [(&str, &str); 20] = [
-    (
-        "ff026d06",
-        "ok ttlm(dir=2,default=1,spare=0,narrow=0,switch=-,duration=-,map=-,tail=)",
-    ),
-    (
-        "ff056d21090102",
-        "ok ttlm(dir=1,default=0,spare=0,narrow=1,switch=-,duration=-,map=0:1+3:2,tail=)",
-    ),
-    (
-        "ff0a6d1a0134120100000300",
-        "ok ttlm(dir=2,default=0,spare=0,narrow=0,switch=4660,duration=1,map=0:3,tail=)",
-    ),
-    ("ff036d0308", "refused element=0 place=0 ReservedDirection"),
-    ("ff056d210901", "refused place=0 Truncated"),
-    ("\r", "ok"),
-    // Sparse presence bits: TIDs 0 and 7, and the same two octets short.
-    (
-        "ff076d008103000100",
-        "ok ttlm(dir=0,default=0,spare=0,narrow=0,switch=-,duration=-,map=0:3+7:1,tail=)",
-    ),
-    ("ff056d00810300", "refused element=0 place=4 Truncated"),
-    // Other elements are shown as octets, an unknown rest of a mapping element as its tail.
-    ("0003616263", "ok e0:616263"),
-    ("0000dd03AABBCC", "ok e0: e221:aabbcc"),
-    (
-        "elements ff0238ddff056d4602aabb",
-        "ok e255.56:dd ttlm(dir=2,default=1,spare=1,narrow=0,switch=-,duration=-,map=-,tail=02aabb)",
-    ),
-    // The first refusal in the list's order.
-    (
-        "0000ff026d03ff016b",
-        "refused element=1 place=0 ReservedDirection",
-    ),
-    ("0000ff016bff026d03", "refused element=1 place=0 NotBuilt"),
-    ("f20100", "refused place=0 StrayFragment"),
-    ("0001aaf20100", "refused place=3 StrayFragment"),
-    ("ff00", "refused place=0 NoExtension"),
-    // Kinds that aren't shown yet.
-    ("action 250001", "refused place=0 NotBuilt"),
-    ("assoc-ask ", "refused place=0 NotBuilt"),
-    ("assoc-reply 00", "refused place=0 NotBuilt"),
-    ("frame 88", "refused place=0 NotBuilt"),
-];
-
-#[test]
-fn lines_are_shown(rt: HostRuntime) -> Result<(), Fail> {
-    for (line, shown) in LINES {
-        let ran = decode(rt.alloc(), line.as_bytes())?;
+/// Each line is shown so.
+fn are_shown(rt: &impl Abort, alloc: Global, lines: &[(&str, &str)]) -> Result<(), Fail> {
+    for (line, shown) in lines {
+        let ran = decode(alloc, line.as_bytes())?;
         assert_eq!(rt; ran.outcome.status, 0, "at {line}");
         assert_eq!(rt; ran.outcome.place, 0, "at {line}");
-        let want = format!(in rt.alloc(); "{shown}\n")?;
+        let want = format!(in alloc; "{shown}\n")?;
         assert_eq!(rt; ran.written.as_str(), want.as_str(), "at {line}");
     }
     Ok(())
+}
+
+#[test]
+fn elements_are_shown(rt: HostRuntime) -> Result<(), Fail> {
+    are_shown(&rt, rt.alloc(), &ELEMENTS)
+}
+
+#[test]
+fn frames_are_shown(rt: HostRuntime) -> Result<(), Fail> {
+    are_shown(&rt, rt.alloc(), &FRAMES)
+}
+
+#[test]
+fn action_bodies_are_shown(rt: HostRuntime) -> Result<(), Fail> {
+    are_shown(&rt, rt.alloc(), &ACTIONS)
+}
+
+#[test]
+fn association_bodies_are_shown(rt: HostRuntime) -> Result<(), Fail> {
+    are_shown(&rt, rt.alloc(), &ASSOCIATIONS)
 }
 
 const CUT: [(&str, u32); 9] = [
@@ -144,14 +121,25 @@ fn cut_elements_are_refused_at_their_field(rt: HostRuntime) -> Result<(), Fail> 
     Ok(())
 }
 
-/// A line of an element of ID 221 with so many zero octets in its first piece, and more digits.
-fn long_line(alloc: Global, header: &str, octets: usize, more: &str) -> Result<String, Fail> {
-    let mut line = String::from_str(alloc, header)?;
-    for _ in 0..octets {
-        line.push_str("00")?;
+/// A text, an octet's digits so many times, and more text.
+fn filled(
+    alloc: Global,
+    front: &str,
+    octet: &str,
+    count: usize,
+    more: &str,
+) -> Result<String, Fail> {
+    let mut line = String::from_str(alloc, front)?;
+    for _ in 0..count {
+        line.push_str(octet)?;
     }
     line.push_str(more)?;
     Ok(line)
+}
+
+/// A line of an element of ID 221 with so many zero octets in its first piece, and more digits.
+fn long_line(alloc: Global, header: &str, octets: usize, more: &str) -> Result<String, Fail> {
+    filled(alloc, header, "00", octets, more)
 }
 
 #[test]
@@ -175,6 +163,51 @@ fn fragments_are_joined(rt: HostRuntime) -> Result<(), Fail> {
 }
 
 #[test]
+fn fragments_of_multi_link_elements_are_joined(rt: HostRuntime) -> Result<(), Fail> {
+    let alloc = rt.alloc();
+    let shown =
+        "ok ml(basic,spare=0,mld=020000000001,link=-,count=-,sync=-,eml=-,caps=-,apid=-,ext=-,tail=,subs=[";
+    let head = "ffff6b000007020000000001";
+    // A subelement that fills one piece of the element, and one that takes a second piece.
+    let full = long_line(alloc, head, 0, "ddf3")?;
+    let one = decode(alloc, long_line(alloc, full.as_str(), 243, "")?.as_bytes())?;
+    let start = format!(in alloc; "{shown}s221:")?;
+    assert_eq!(rt;
+        one.written.as_str(),
+        long_line(alloc, start.as_str(), 243, "])\n")?.as_str()
+    );
+    let more = long_line(alloc, head, 0, "ddf4")?;
+    let two = decode(
+        alloc,
+        long_line(alloc, more.as_str(), 243, "f20100")?.as_bytes(),
+    )?;
+    assert_eq!(rt;
+        two.written.as_str(),
+        long_line(alloc, start.as_str(), 244, "])\n")?.as_str()
+    );
+    let empty = decode(
+        alloc,
+        long_line(alloc, more.as_str(), 243, "f200")?.as_bytes(),
+    )?;
+    assert_eq!(rt; empty.written.as_str(), "refused place=257 EmptyFragment\n");
+    // A profile of 300 octets: two pieces of its own, in two pieces of the element.
+    let profile = long_line(alloc, head, 0, "00ff010001")?;
+    let first = filled(alloc, profile.as_str(), "aa", 240, "f23b")?;
+    let second = filled(alloc, first.as_str(), "aa", 12, "fe2d")?;
+    let line = filled(alloc, second.as_str(), "aa", 45, "")?;
+    assert_eq!(rt; line.len(), 636);
+    let nested = decode(alloc, line.as_bytes())?;
+    let sta =
+        "sta(link=1,complete=0,pair=0,wide=0,spare=0,mac=-,beacon=-,tsf=-,dtim=-,nstr=-,count=-,tail=,body=";
+    let start = format!(in alloc; "{shown}{sta}")?;
+    assert_eq!(rt;
+        nested.written.as_str(),
+        filled(alloc, start.as_str(), "aa", 297, ")])\n")?.as_str()
+    );
+    Ok(())
+}
+
+#[test]
 fn lines_are_split(rt: HostRuntime) -> Result<(), Fail> {
     let inputs = [
         ("", ""),
@@ -188,6 +221,76 @@ fn lines_are_split(rt: HostRuntime) -> Result<(), Fail> {
         assert_eq!(rt; ran.outcome.status, 0, "at {input:?}");
         assert_eq!(rt; ran.written.as_str(), text, "at {input:?}");
     }
+    Ok(())
+}
+
+#[test]
+fn lines_are_judged(rt: HostRuntime) -> Result<(), Fail> {
+    let alloc = rt.alloc();
+    let verdict = "refused element=0 place=0 ReservedDirection\n";
+    let inputs = [
+        ("", "", 0, 0),
+        ("ff026d06\n\n", "ok 4\nok 0\n", 0, 0),
+        ("ff026d06\r\nff036d0308", "", 7, 2),
+        ("ff036d0308\nff026d06\nff036d0308", "", 7, 1),
+        ("ff026d06\nxy", "", 2, 2),
+        ("ff036d0308\nxy\n0", "", 2, 2),
+        ("frame 88", "refused place=0 Short\n", 7, 1),
+    ];
+    for (i, (input, text, status, place)) in inputs.into_iter().enumerate() {
+        let ran = run_failing(
+            alloc,
+            &["check"],
+            input.as_bytes(),
+            none(alloc),
+            none(alloc),
+        )?;
+        assert_eq!(rt; ran.outcome.status, status, "at {input:?}");
+        assert_eq!(rt; ran.outcome.place, place, "at {input:?}");
+        assert!(rt; ran.outcome.journal.is_none(), "at {input:?}");
+        let want = match i {
+            2 => format!(in alloc; "ok 4\n{verdict}")?,
+            3 => format!(in alloc; "{verdict}ok 4\n{verdict}")?,
+            _ => String::from_str(alloc, text)?,
+        };
+        assert_eq!(rt; ran.written.as_str(), want.as_str(), "at {input:?}");
+    }
+    // A cut write comes before a refused line.
+    let cut = run_failing(
+        alloc,
+        &["check"],
+        b"ff036d0308",
+        none(alloc),
+        only(alloc, 1)?,
+    )?;
+    assert_eq!(rt; cut.outcome.status, 4);
+    assert_eq!(rt; cut.outcome.place, 10);
+    assert_eq!(rt; cut.written.as_str(), "refused el");
+    Ok(())
+}
+
+#[test]
+fn a_status_is_told(rt: HostRuntime) -> Result<(), Fail> {
+    let alloc = rt.alloc();
+    let lines = [
+        (7, 2, "mld: status 7 place 2\n"),
+        (
+            255,
+            u64::MAX,
+            "mld: status 255 place 18446744073709551615\n",
+        ),
+    ];
+    for (status, place, line) in lines {
+        let mut sink = MemSink::new(alloc, none(alloc), 10);
+        assert!(rt; write_status(status, place, &mut sink).is_ok());
+        assert_eq!(rt; sink.taken(), line.as_bytes());
+    }
+    let mut failing = MemSink::new(alloc, only(alloc, 1)?, 10);
+    match write_status(7, 2, &mut failing) {
+        Ok(()) => assert!(rt; false, "the second write fails"),
+        Err(fault) => assert_eq!(rt; fault.taken, 10),
+    }
+    assert_eq!(rt; failing.taken(), b"mld: statu".as_slice());
     Ok(())
 }
 
@@ -221,7 +324,7 @@ fn words_other_than_a_command_are_usage(rt: HostRuntime) -> Result<(), Fail> {
     let none_given = run_failing(alloc, &[], b"0000", none(alloc), none(alloc))?;
     assert_eq!(rt; none_given.outcome.status, 1);
     assert_eq!(rt; none_given.written.as_str(), "");
-    let other = run_failing(alloc, &["check"], b"0000", none(alloc), none(alloc))?;
+    let other = run_failing(alloc, &["live"], b"0000", none(alloc), none(alloc))?;
     assert_eq!(rt; other.outcome.status, 1);
     let two = run_failing(
         alloc,

@@ -5,8 +5,11 @@ use Rattle.wl_mle.proofs.decode.decode_body.Goals as goal
 
 pub returns-clause-read : goal.returns-clause-read
 returns-clause-read c =
-    answered c.args.body.now c.value_of_body.result
+    answered c.items_are_octets.ensures c.args.body.now c.value_of_body.result
     (recursion_from_All (λ octet. octet < 256) c.args.body.now (All-from_get_or (λ octet. octet < 256) c.args.body.now 0 (λ i _. omega (arith, c.type_inv.body i)))) c.value_of_body.ensures
 
 pub returns-clause-only : goal.returns-clause-only
-returns-clause-only c = answered_only c.args.body.now c.value_of_body.result c.value_of_body.ensures
+returns-clause-only c =
+    answered_only c.read_once.ensures c.args.body.now c.value_of_body.result
+    (answered c.items_are_octets.ensures c.args.body.now c.value_of_body.result
+    (recursion_from_All (λ octet. octet < 256) c.args.body.now (All-from_get_or (λ octet. octet < 256) c.args.body.now 0 (λ i _. omega (arith, c.type_inv.body i)))) c.value_of_body.ensures)

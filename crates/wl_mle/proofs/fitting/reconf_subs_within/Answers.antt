@@ -1,6 +1,6 @@
 use Rattle.std.proofs.Common.{◌+◌, ◌≤◌, length, arith}
+use Rattle.wl_elem.specs.Items.{written_len}
 use Rattle.wl_mle.specs.MultiLink.{reconf_sub}
-use Rattle.wl_mle.specs.Fitting.{written_len}
 use Rattle.wl_mle.proofs.Lengths.{len_more, len_front}
 use Rattle.wl_mle.proofs.fitting.reconf_subs_within.Goals as goal
 

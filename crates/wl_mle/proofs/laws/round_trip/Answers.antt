@@ -1,5 +1,5 @@
-use Rattle.wl_mle.proofs.Once.{is_read_back}
+use Rattle.std.proofs.Common.{Ok}
 use Rattle.wl_mle.proofs.laws.round_trip.Goals as goal
 
 pub returns : goal.returns
-returns c = is_read_back
+returns c value body reading of read = c.read_once.ensures body reading (Ok value) read of

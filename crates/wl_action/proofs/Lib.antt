@@ -1,0 +1,12 @@
+pub mod Counts
+pub mod Cuts
+pub mod Items
+pub mod Made
+pub mod Once
+pub mod Parts
+pub mod Readings
+pub mod Spelled
+pub mod Table
+pub mod Total
+pub mod Words
+pub mod Writable

@@ -1,0 +1,3 @@
+pub mod Action
+pub mod Reading
+pub mod Writing

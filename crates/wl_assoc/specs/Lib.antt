@@ -1,0 +1,3 @@
+pub mod Association
+pub mod Profiles
+pub mod Reading

@@ -1,0 +1,10 @@
+pub mod Once
+pub mod Marking
+pub mod Filters
+pub mod Expansion
+pub mod LeavingOut
+pub mod Regaining
+pub mod Octets
+pub mod Pairing
+pub mod Inheriting
+pub mod Shrunk

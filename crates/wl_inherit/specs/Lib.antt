@@ -1,0 +1,5 @@
+pub mod NonInheritance
+pub mod Identity
+pub mod Inheritance
+pub mod Marks
+pub mod Shrinking

@@ -1,0 +1,44 @@
+//! Writing the element's body.
+
+ghost use Rattle.std.specs.Prelude.{◌≡◌, ◌≤◌, ◌++◌, Option, Some, IfOk, OnOk, length};
+ghost use Rattle.wl_elem.specs.Element.{HasIdentity};
+ghost use Rattle.wl_inherit.specs.NonInheritance.{NonOf, IsWritable, IsNonInheritance, listed, spelling};
+
+use crate::non_inheritance::NonInheritance;
+use std::alloc::Global;
+use wl_elem::{Bytes, Element, Memory};
+
+/// A list behind its length.
+fn put_list(out: &mut Bytes, octets: &[u8]) -> Result<(), Memory>
+    requires { length octets.now ≤ 255 }
+    ensures { OnOk result (out.new ≡ out.old ++ listed octets.now) }
+{
+    out.push(octets.len() as u8)?;
+    out.extend(octets)
+}
+
+/// The body of a value.
+fn body_of(alloc: Global, value: &NonInheritance) -> Result<Bytes, Memory>
+    requires { IsNonInheritance value.now }
+    ensures { IfOk result (λ body. body ≡ spelling value.now) }
+{
+    let mut out = Bytes::new(alloc);
+    put_list(&mut out, value.ids.as_slice())?;
+    put_list(&mut out, value.exts.as_slice())?;
+    out.extend(value.tail.as_slice())?;
+    Ok(out)
+}
+
+/// The one element of this value, which is well formed: `NonInheritance::well_formed` says true of
+/// it. Its identity is 255/56. `Memory` where there was none for the body.
+pub fn encode_non(alloc: Global, value: &NonInheritance) -> Result<Element, Memory>
+    requires { IsWritable value.now }
+    ensures identity { IfOk result (λ e. HasIdentity e 255 (Some 56)) }
+    ensures written { IfOk result (λ e. NonOf value.now e.body) }
+{
+    let body = body_of(alloc, value)?;
+    match Element::new(255, Some(56), body) {
+        Some(element) => Ok(element),
+        None => unreachable!(),
+    }
+}

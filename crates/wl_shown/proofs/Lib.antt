@@ -1,0 +1,9 @@
+pub mod Lines
+pub mod Mappings
+pub mod Items
+pub mod Texts
+pub mod Once
+pub mod Values
+pub mod Judging
+pub mod Identities
+pub mod Bodies

@@ -1,0 +1,11 @@
+pub mod Text
+pub mod Line
+pub mod Parts
+pub mod TtlmText
+pub mod MlText
+pub mod FrameText
+pub mod AssocText
+pub mod ActionText
+pub mod Shown
+pub mod Decoded
+pub mod Checked

@@ -1,0 +1,50 @@
+//! Laws of the definitions, each the contract of a function that does nothing of its own.
+
+ghost use Rattle.std.specs.Prelude.{◌≡◌, ℕ, List, Option};
+ghost use Rattle.wl_shown.specs.Decoded.{ShownLines, IsFirstBad};
+ghost use Rattle.wl_shown.specs.Checked.{VerdictLines};
+
+/// One text is shown for the lines of an input.
+pub fn shown_once()
+    ensures { (input : List (List ℕ)) (text other : List ℕ) → ShownLines input text → ShownLines input other → text ≡ other }
+{
+    wl_elem::read_once();
+    wl_ttlm::read_once();
+    wl_mle::read_once();
+    wl_frame::read_once();
+    wl_action::read_once();
+    wl_assoc::ask_read_once();
+    wl_assoc::reply_read_once();
+    wl_assoc::asks_once();
+    wl_assoc::states_once();
+}
+
+/// The lines of an input have one text of verdicts, and one first refused line or none.
+pub fn judged_once()
+    ensures { (input : List (List ℕ)) (text other : List ℕ) (line next : Option ℕ) → VerdictLines input text line → VerdictLines input other next → (text ≡ other) × (line ≡ next) }
+{
+    wl_elem::read_once();
+    wl_ttlm::read_once();
+    wl_mle::read_once();
+    wl_frame::read_once();
+    wl_action::read_once();
+    wl_assoc::ask_read_once();
+    wl_assoc::reply_read_once();
+    wl_assoc::asks_once();
+    wl_assoc::states_once();
+}
+
+/// What has verdicts has no line that is no hex line.
+pub fn judged_or_refused()
+    ensures { (input : List (List ℕ)) (text : List ℕ) (refused : Option ℕ) (line : ℕ) → VerdictLines input text refused → IsFirstBad input line → ⊥ }
+{}
+
+/// One line is the first that is no hex line.
+pub fn refused_once()
+    ensures { (input : List (List ℕ)) (line other : ℕ) → IsFirstBad input line → IsFirstBad input other → line ≡ other }
+{}
+
+/// What is shown has no such line.
+pub fn shown_or_refused()
+    ensures { (input : List (List ℕ)) (text : List ℕ) (line : ℕ) → ShownLines input text → IsFirstBad input line → ⊥ }
+{}

@@ -1,4 +1,4 @@
-use Rattle.std.proofs.Common.{◌≡◌, ℕ, List, ap, subst, refl, ◌∙◌}
+use Rattle.std.proofs.Common.{◌≡◌, ℕ, List, subst, refl, ◌∙◌}
 use Rattle.std.specs.Prelude.{IfErr}
 use Rattle.wl_io.specs.Writing.{IsWriteFault}
 use Rattle.wl_top.specs.Status.{status_line}

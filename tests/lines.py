@@ -135,12 +135,17 @@ def info(octets, at, slots, short, long):
     return values, octets[at:end], end
 
 
-def profile(octets):
+def info_control(octets):
     if len(octets) < 3:
         raise Refused("InfoShort", 0)
     control = number(octets[:2])
     if control & 15 == 15:
         raise Refused("ReservedLink", 0)
+    return control
+
+
+def profile(octets):
+    control = info_control(octets)
     flags = {name: bool(control & bit) for name, bit in (("complete", 0x10), ("pair", 0x200), ("wide", 0x400))}
     slots = [
         ("mac", control & 0x20, 6),
@@ -155,11 +160,7 @@ def profile(octets):
 
 
 def change(octets):
-    if len(octets) < 3:
-        raise Refused("InfoShort", 0)
-    control = number(octets[:2])
-    if control & 15 == 15:
-        raise Refused("ReservedLink", 0)
+    control = info_control(octets)
     values, tail, end = info(octets, 2, [("mac", control & 0x20, 6), ("timer", control & 0x40, 2)], "InfoShort", "InfoLong")
     return {
         "link": control & 15, "complete": bool(control & 0x10), "op": control >> 7 & 15,

@@ -716,7 +716,7 @@ def main():
         sys.exit(f"lines: decode ended with {ran.returncode} and {ran.stderr!r}")
     ran, verdicts = compare("check", lines, judge_line)
     first = next((i for i, verdict in enumerate(verdicts, 1) if verdict.startswith("refused")), None)
-    status, told = (7, f"mld: status 7 place {first}\n") if first else (0, "")
+    status, told = (7, f"mld: status 7 place {first}\nline {first} is the first that is refused\n") if first else (0, "")
     if ran.returncode != status or ran.stderr != told:
         sys.exit(f"lines: check ended with {ran.returncode} and {ran.stderr!r}, not {status} and {told!r}")
     names = {}

@@ -1,4 +1,5 @@
--- Reading the fields of a kind, which are whole, and the list behind them.
+-- For private contracts alone: reading the fields of a kind, which are whole, and the list behind
+-- them.
 use Rattle.std.specs.Prelude.{◌≡◌, ℕ, zero, suc, ◌+◌, ◌*◌, Bool, true, false, List, [], ◌∷◌, drop, slice_index, Option, Some, None, Result, Ok, Err}
 use Rattle.std.specs.List.{AllByRecursion}
 use Rattle.wl_elem.specs.declared.fault.Refusal.{Refusal}

@@ -1,4 +1,4 @@
--- The tests of a value, by its parts.
+-- For private contracts alone: the tests of a value, by its parts.
 use Rattle.std.specs.Prelude.{◌≡◌, ℕ, ◌+◌, ◌<◌, ◌≤◌, true, false, is_some, List, length, Option}
 use Rattle.std.specs.List.{AllByRecursion}
 use Rattle.wl_elem.specs.Element.{ElementValue}

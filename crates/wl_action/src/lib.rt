@@ -16,6 +16,3 @@ pub use decode::decode_action;
 pub use encode::encode_action;
 pub use laws::{read_once, read_or_refused, round_trip, spelled_once};
 pub use statuses::{LinkStatus, LinkStatuses};
-
-#[cfg(test)]
-mod tests;

@@ -15,3 +15,4 @@ pub mod Plays
 pub mod Onces
 pub mod Steps
 pub mod Begun
+pub mod Doing

@@ -1,6 +1,6 @@
 -- What a script asks for, step by step.
 use Rattle.std.proofs.Common.{◌≡◌, ℕ, ◌+◌, ◌*◌, ◌<◌, ◌≤◌, true, false, List, ◌∷◌, length, drop, get_or, refl, sym, ap, subst, ◌∙◌, arith, inl, inr}
-use Rattle.std.specs.Prelude.{◌⊎◌, Result, OnOk}
+use Rattle.std.specs.Prelude.{◌⊎◌, Result, Ok, Err, OnOk, OnErr, IfErr}
 use Rattle.std.proofs.lemmas.List.{drop_more, drop_all}
 use Rattle.std.specs.List.{AllByRecursion}
 use Rattle.wl_elem.specs.declared.lane.EndId.{EndId}
@@ -108,6 +108,41 @@ module _ (text : Sealing) where
         (inr (has_reserved w.start end w3.steps w1.steps o1 yes1
         (did_at w.start w1 w2 (commands.Book end) o2 (λ booked outcome. w3.steps ≡ booked) n1.start_is n2 (n1.goes_on h) (ap (λ (x : WorldState). x.steps) same)))))
 
+  -- ---- how many steps a send makes
+
+  more_steps : (w w' : WorldState) (command : Command) (o : Outcome) → Next text w w' command o → length w'.steps ≡ length w.steps + 1
+  more_steps w w' command o n = omega (arith, ap (λ (l : List Step). length l) n.steps_are)
+
+  same_steps : (w w' : WorldState) → w' ≡ w → length w'.steps ≡ length w.steps
+  same_steps w w' same = ap (λ (x : WorldState). length x.steps) same
+
+  module _ (w : WorldState) where
+    pub first_room : length w.steps + 3 ≤ step_limit → length w.steps < step_limit
+    first_room room = omega arith
+
+    pub count_same : (w1 : WorldState) → w1 ≡ w → length w1.steps ≤ length w.steps + 3
+    count_same w1 same = omega (arith, same_steps w w1 same)
+
+    module _ (w1 : WorldState) (first : Command) (o1 : Outcome) (n1 : Next text w w1 first o1) where
+      pub second_room : length w.steps + 3 ≤ step_limit → length w1.steps < step_limit
+      second_room room = omega (arith, more_steps w w1 first o1 n1)
+
+      pub count_one : length w1.steps ≤ length w.steps + 3
+      count_one = omega (arith, more_steps w w1 first o1 n1)
+
+      pub count_one_same : (w2 : WorldState) → w2 ≡ w1 → length w2.steps ≤ length w.steps + 3
+      count_one_same w2 same = omega (arith, more_steps w w1 first o1 n1, same_steps w1 w2 same)
+
+      module _ (w2 : WorldState) (second : Command) (o2 : Outcome) (n2 : Next text w1 w2 second o2) where
+        pub third_room : length w.steps + 3 ≤ step_limit → length w2.steps < step_limit
+        third_room room = omega (arith, more_steps w w1 first o1 n1, more_steps w1 w2 second o2 n2)
+
+        pub count_two : length w2.steps ≤ length w.steps + 3
+        count_two = omega (arith, more_steps w w1 first o1 n1, more_steps w1 w2 second o2 n2)
+
+        pub count_three : (w3 : WorldState) → length w3.steps ≤ length w2.steps + 1 → length w3.steps ≤ length w.steps + 3
+        count_three w3 le = omega (arith, more_steps w w1 first o1 n1, more_steps w1 w2 second o2 n2, le)
+
   -- ---- a command alone
 
   pub did_one : (w w1 : WorldState) (command : Command) (o : Outcome) → Next text w w1 command o → Stands text w → PlainThen text w.start (Do command) w.steps (λ then_is. w1.steps ≡ then_is)
@@ -190,8 +225,47 @@ goes_room text old now items rest plain g = omega (arith, g.room)
 pub goes_fit : (text : Sealing) (old now : WorldState) (items rest : List Item) (plain : Plain) → Goes text old now items (Once plain ∷ rest) → PlainFits now.start plain
 goes_fit text old now items rest plain g = subst (λ (x : Start). PlainFits x plain) (sym g.start_is) g.fit.0
 
+-- ---- a step whose answer isn't asked for, at the end of what is asked for
+
+-- the world after a step alone, of which some answer was noted
+pub record Alone (text : Sealing) (w w' : WorldState) (command : Command) (r : Result (Unit {0}) StepFault) : Type 0 where
+  pub start_is : w'.start ≡ w.start
+  pub stepped : OnOk r ((o : Outcome) × (w'.steps ≡ step_of 0 command o ∷ w.steps))
+  pub goes_on : Stands text w → Stands text w'
+  pub fault : IfErr r (IsWorldFault text w command)
+  pub unchanged : OnErr r (w' ≡ w)
+
+pub sent_alone : (text : Sealing) (w w1 w2 w3 : WorldState) (end : EndId) (link : ℕ) (lane : Lane) (o1 o2 : Outcome) (r : Result (Unit {0}) StepFault) → Next text w w1 (commands.Reserve end lane) o1 → is_reserved o1 ≡ true
+    → Next text w1 w2 (commands.Book end) o2 → is_booked o2 ≡ true → Alone text w2 w3 (commands.Put end link) r → OnOk r (Stands text w → PlainThen text w.start (Send end link lane) w.steps (λ then_is. w3.steps ≡ then_is))
+sent_alone text w w1 w2 w3 end link lane o1 o2 (Ok u) n1 yes1 n2 yes2 a =
+    sent_whole text w end link lane w1 w2 w3 o1 o2 a.stepped.0 n1 yes1 n2 yes2 (record { start_is = a.start_is; steps_are = a.stepped.1; goes_on = a.goes_on })
+sent_alone text w w1 w2 w3 end link lane o1 o2 (Err f) n1 yes1 n2 yes2 a = tt
+
+pub unsent_alone : (text : Sealing) (w w1 w2 w3 : WorldState) (end : EndId) (link : ℕ) (lane : Lane) (o1 o2 : Outcome) (r : Result (Unit {0}) StepFault) → Next text w w1 (commands.Reserve end lane) o1 → is_reserved o1 ≡ true
+    → Next text w1 w2 (commands.Book end) o2 → Alone text w2 w3 (commands.Put end link) r → IfErr r (λ f. Stands text w → PlainFault text w.start (Send end link lane) w.steps w3.steps f)
+unsent_alone text w w1 w2 w3 end link lane o1 o2 (Ok u) n1 yes1 n2 a = tt
+unsent_alone text w w1 w2 w3 end link lane o1 o2 (Err f) n1 yes1 n2 a = failed_at_put text w end link lane w1 w2 w3 o1 o2 f n1 yes1 n2 a.unchanged a.fault
+
+pub did_alone : (text : Sealing) (w w1 : WorldState) (plain : Plain) (command copied : Command) (r : Result (Unit {0}) StepFault) → plain ≡ Do command → copied ≡ command → Alone text w w1 copied r
+    → OnOk r (Stands text w → PlainThen text w.start plain w.steps (λ then_is. w1.steps ≡ then_is))
+did_alone text w w1 plain command copied (Ok u) is same a =
+    subst (λ (x : Plain). Stands text w → PlainThen text w.start x w.steps (λ then_is. w1.steps ≡ then_is)) (sym (is ∙ ap (λ (x : Command). Do x) (sym same)))
+    (did_one text w w1 copied a.stepped.0 (record { start_is = a.start_is; steps_are = a.stepped.1; goes_on = a.goes_on }))
+did_alone text w w1 plain command copied (Err f) is same a = tt
+
+pub undone_alone : (text : Sealing) (w w1 : WorldState) (plain : Plain) (command copied : Command) (r : Result (Unit {0}) StepFault) → plain ≡ Do command → copied ≡ command → Alone text w w1 copied r
+    → IfErr r (λ f. Stands text w → PlainFault text w.start plain w.steps w1.steps f)
+undone_alone text w w1 plain command copied (Ok u) is same a = tt
+undone_alone text w w1 plain command copied (Err f) is same a =
+    subst (λ (x : Plain). Stands text w → PlainFault text w.start x w.steps w1.steps f) (sym (is ∙ ap (λ (x : Command). Do x) (sym same)))
+    (failed_at_one text w w1 copied f a.unchanged a.fault)
+
 -- ---- a send, where it is what is asked for
 
 pub done_of : (text : Sealing) (w w1 : WorldState) (plain : Plain) (end : EndId) (link : ℕ) (lane : Lane) (r : Result (Unit {0}) StepFault) → plain ≡ Send end link lane
     → OnOk r (Stands text w → PlainThen text w.start (Send end link lane) w.steps (λ then_is. w1.steps ≡ then_is)) → OnOk r (Stands text w → PlainThen text w.start plain w.steps (λ then_is. w1.steps ≡ then_is))
 done_of text w w1 plain end link lane r is done = subst (λ (x : Plain). OnOk r (Stands text w → PlainThen text w.start x w.steps (λ then_is. w1.steps ≡ then_is))) (sym is) done
+
+pub fault_of : (text : Sealing) (w w1 : WorldState) (plain : Plain) (end : EndId) (link : ℕ) (lane : Lane) (r : Result (Unit {0}) StepFault) → plain ≡ Send end link lane
+    → IfErr r (λ f. Stands text w → PlainFault text w.start (Send end link lane) w.steps w1.steps f) → IfErr r (λ f. Stands text w → PlainFault text w.start plain w.steps w1.steps f)
+fault_of text w w1 plain end link lane r is fault = subst (λ (x : Plain). IfErr r (λ f. Stands text w → PlainFault text w.start x w.steps w1.steps f)) (sym is) fault

@@ -24,8 +24,8 @@ use Rattle.wl_air.specs.declared.fault.StepFault.TheVariants as faults
 use Rattle.wl_air.specs.Air.{AirState, end_of, with_end}
 use Rattle.wl_air.specs.Acting.{Acts, BodyFits, Forges, HeardIf, IsStepFault, OnLinks, octets_named}
 use Rattle.wl_air.specs.Playing.{IsWorldFault}
-use Rattle.wl_air.specs.World.{world_of, IsWorld, IsAir, AreBookedShort, Stands, step_limit}
-use Rattle.wl_air.proofs.Kept.{is_air, booked_short, world_kept}
+use Rattle.wl_air.specs.World.{world_of, IsWorld, IsRoomy, IsAir, AreBookedShort, Stands, step_limit}
+use Rattle.wl_air.proofs.Kept.{is_air, booked_short, roomy, world_kept}
 
 -- ---- a frame that is delivered
 
@@ -90,3 +90,15 @@ module _ (text : Sealing) (sealing : IsSealing text) (start : Start) (a : AirSta
   pub fault : ForgeriesLaw → (f : StepFault) → IsStepFault text command a f → IsWorldFault text (world_of start a before) command f
   fault law faults.Memory forges = tt
   fault law (faults.Forged opened) forges = λ h. law text start before a command opened sealing (is_air start a (length before) w sound) (booked_short start a (length before) w sound text before h ranges) h fits links forges
+
+-- ---- a step that wasn't made
+
+pub unmade : (start : Start) (a a' : AirState) (steps steps' : List Step) → a' ≡ a → steps' ≡ steps → IsWorld start a (length steps) → IsWorld start a' (length steps')
+unmade start a a' steps steps' same same_steps w = subst (λ (x : AirState). IsWorld start x (length steps')) (sym same) (subst (λ (x : List Step). IsWorld start a (length x)) (sym same_steps) w)
+
+pub unchanged : (start : Start) (a a' : AirState) (steps steps' : List Step) → a' ≡ a → steps' ≡ steps → world_of start a' steps' ≡ world_of start a steps
+unchanged start a a' steps steps' same same_steps = ap (λ (x : AirState). world_of start x steps') same ∙ ap (λ (x : List Step). world_of start a x) same_steps
+
+-- both ends have room for the step
+pub both_roomy : (start : Start) (a : AirState) (steps : List Step) → IsWorld start a (length steps) → length steps < step_limit → (e : EndId) → IsRoomy (end_of a e)
+both_roomy start a steps w lt e = roomy (length steps) (end_of a e) lt (w.bounded e)

@@ -1,6 +1,8 @@
 //! Two ends, and what they acknowledged.
 
-ghost use Rattle.std.specs.Prelude.{◌≡◌, ◌+◌, ◌-◌, ◌^◌, ◌<◌, ◌≤◌, ◌++◌, ◌∷◌, [], length, option_copied, IfOk, IfErr, OnOk, OnErr, ℕ};
+ghost use Rattle.std.specs.Prelude.{◌≡◌, ◌+◌, ◌-◌, ◌^◌, ◌<◌, ◌≤◌, ◌++◌, ◌∷◌, [], length, option_copied, Ok, IfOk, IfErr, OnOk, OnErr, ℕ};
+ghost use Rattle.std.specs.Result.{IsErr};
+ghost use Rattle.wl_air.specs.declared.fault.StepFault.TheVariants.{Memory as IsMemory};
 ghost use Rattle.std.specs.List.{Contains};
 ghost use Rattle.wl_number.specs.declared.numbers.Numbers.{Numbers};
 ghost use Rattle.wl_number.specs.NumberObject.{InRange};
@@ -52,6 +54,38 @@ fn acked(alloc: Global, ack: &Ack) -> Result<Outcome, Memory>
     })
 }
 
+/// The answer to an acknowledgement that was made, twice: for the caller and for the journal.
+fn acked_twice(alloc: Global, ack: &Ack) -> Result<(Outcome, Outcome), Memory>
+    ensures answer { IfOk result (λ o. o.0 ≡ IsAcked ack.now.start ack.now.stored) }
+    ensures again { IfOk result (λ o. o.1 ≡ o.0) }
+{
+    let outcome = acked(alloc, ack)?;
+    match acked(alloc, ack) {
+        Ok(again) => Ok((outcome, again)),
+        Err(fault) => Err(fault),
+    }
+}
+
+/// An acknowledgement of a lane of an end, which is added to those that it made.
+fn acknowledge(
+    alloc: Global,
+    end: &End,
+    lane: &Lane,
+    acks: &mut Acks,
+) -> Result<(Outcome, Outcome), Memory>
+    ensures answer { IfOk result (λ o. o.0 ≡ ack_out_answer (lane_at end.now (lane_index lane.now)).window) }
+    ensures again { IfOk result (λ o. o.1 ≡ o.0) }
+    ensures after { OnOk result (acks.new ≡ acks.old ++ ack_of lane.now (lane_at end.now (lane_index lane.now)).window ∷ []) }
+    ensures unchanged { OnErr result (acks.new ≡ acks.old) }
+{
+    let ack = end.ack_out(*lane)?;
+    let both = acked_twice(alloc, &ack)?;
+    match acks.push(ack) {
+        Ok(()) => Ok(both),
+        Err(fault) => Err(fault),
+    }
+}
+
 /// Lets an end take an acknowledgement, where it is there.
 fn take(end: &mut End, ack: Option<&Ack>) -> Outcome
     ensures answer { result ≡ ack_answer (option_copied ack.entry) end.old }
@@ -75,6 +109,20 @@ fn twice(outcome: Outcome) -> (Outcome, Outcome)
 {
     let again = outcome.again();
     (outcome, again)
+}
+
+/// An answer twice, where there was memory for what it answers.
+fn both(answer: Result<Outcome, Memory>) -> Result<(Outcome, Outcome), StepFault>
+    requires { IfOk answer IsPlain }
+    ensures one { IfOk result (λ o. answer ≡ Ok o.0) }
+    ensures again { IfOk result (λ o. o.1 ≡ o.0) }
+    ensures fault { IfErr result (λ fault. fault ≡ IsMemory) }
+    ensures none { OnErr result (IsErr answer) }
+{
+    match answer {
+        Ok(outcome) => Ok(twice(outcome)),
+        Err(_) => Err(StepFault::Memory),
+    }
 }
 
 impl Air {
@@ -120,17 +168,10 @@ impl Air {
         ensures after { IfOk result (λ o. self.new ≡ with_acks end (acks_of self.old end ++ ack_of lane.now (lane_at (end_of self.old end) (lane_index lane.now)).window ∷ []) self.old) }
         ensures unchanged { OnErr result (self.new ≡ self.old) }
     {
-        let ack = match end {
-            EndId::Ap => self.ap.ack_out(*lane)?,
-            EndId::Sta => self.sta.ack_out(*lane)?,
-        };
-        let outcome = acked(alloc, &ack)?;
-        let again = acked(alloc, &ack)?;
         match end {
-            EndId::Ap => self.ap_acks.push(ack)?,
-            EndId::Sta => self.sta_acks.push(ack)?,
+            EndId::Ap => acknowledge(alloc, &self.ap, lane, &mut self.ap_acks),
+            EndId::Sta => acknowledge(alloc, &self.sta, lane, &mut self.sta_acks),
         }
-        Ok((outcome, again))
     }
 
     /// Lets an end hear the frame of its peer of this number on a link, from 0, or the latest there. The
@@ -271,12 +312,15 @@ impl Air {
         ensures unchanged { OnErr result (self.new ≡ self.old) }
     {
         match command {
-            Command::Queue { end, tid, body } => Ok(twice(self.queue(alloc, *end, *tid, body)?)),
-            Command::Reserve { end, lane } => Ok(twice(self.reserve(*end, thread, lane)?)),
-            Command::Book { end } => Ok(twice(self.book(*end, thread)?)),
-            Command::Put { end, link } => Ok(twice(self.put(*end, thread, *link, z)?)),
+            Command::Queue { end, tid, body } => both(self.queue(alloc, *end, *tid, body)),
+            Command::Reserve { end, lane } => both(self.reserve(*end, thread, lane)),
+            Command::Book { end } => both(self.book(*end, thread)),
+            Command::Put { end, link } => both(self.put(*end, thread, *link, z)),
             Command::Deliver { end, link, nth } => self.deliver(alloc, *end, *link, *nth, z),
-            Command::AckOut { end, lane } => Ok(self.ack_out(alloc, *end, lane)?),
+            Command::AckOut { end, lane } => match self.ack_out(alloc, *end, lane) {
+                Ok(both) => Ok(both),
+                Err(_) => Err(StepFault::Memory),
+            },
             Command::AckIn { end, nth } => Ok(twice(self.ack_in(*end, *nth))),
         }
     }

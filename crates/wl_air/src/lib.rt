@@ -14,6 +14,3 @@ pub use air::Air;
 pub use fault::StepFault;
 pub use laws::{acts_make_steps, forgeries_are_forged, played_once, the_start_stands};
 pub use world::World;
-
-#[cfg(test)]
-mod tests;

@@ -1,13 +1,14 @@
 //! Scripts, done one command after the other.
 
-ghost use Rattle.std.specs.Prelude.{◌≡◌, ◌+◌, ◌*◌, ◌≤◌, length, OnOk, IfErr};
+ghost use Rattle.std.specs.Prelude.{◌≡◌, ◌∷◌, ◌+◌, ◌*◌, ◌<◌, ◌≤◌, length, OnOk, OnErr, IfErr};
 ghost use Rattle.std.specs.List.{AllByRecursion};
 ghost use Rattle.wl_history.specs.declared.command.Command.TheVariants.{Reserve as Reserves, Put as Puts};
 ghost use Rattle.wl_history.specs.declared.script.Plain.TheVariants.{Send as Sends};
 ghost use Rattle.wl_history.specs.declared.script.Item.TheVariants.{Once as Onces};
+ghost use Rattle.wl_history.specs.declared.outcome.Outcome.{Outcome};
 ghost use Rattle.wl_history.specs.Legal.{Fits};
-ghost use Rattle.wl_history.specs.Runs.{PlainThen, Plays};
-ghost use Rattle.wl_air.specs.Playing.{PlainFits, ItemFits, PlainFault, ScriptFault, is_reserved, is_booked};
+ghost use Rattle.wl_history.specs.Runs.{step_of, PlainThen, Plays};
+ghost use Rattle.wl_air.specs.Playing.{PlainFits, ItemFits, IsWorldFault, PlainFault, ScriptFault, is_reserved, is_booked};
 ghost use Rattle.wl_air.specs.World.{Stands, step_limit};
 
 use crate::fault::StepFault;
@@ -17,15 +18,15 @@ use wl_frame::Sealer;
 use wl_history::{Command, Item, Outcome, Plain, Script};
 
 /// Whether a reserve was granted.
-fn is_reserved(outcome: &Outcome) -> bool
-    ensures { result ≡ is_reserved outcome.now }
+fn is_reserved(outcome: Outcome) -> bool
+    ensures { result ≡ is_reserved outcome }
 {
     matches!(outcome, Outcome::Reserved)
 }
 
 /// Whether a booking was made.
-fn is_booked(outcome: &Outcome) -> bool
-    ensures { result ≡ is_booked outcome.now }
+fn is_booked(outcome: Outcome) -> bool
+    ensures { result ≡ is_booked outcome }
 {
     matches!(outcome, Outcome::Booked { .. })
 }
@@ -40,6 +41,23 @@ fn asked(item: &Item) -> &Plain
 }
 
 impl World {
+    /// Does a command as thread 0, whatever it is answered.
+    fn step_alone<Z: Sealer>(&mut self, command: Command, z: &Z) -> Result<(), StepFault>
+        requires room { length self.old.steps < step_limit }
+        requires fits { Fits self.old.start command }
+        ensures start { self.new.start ≡ self.old.start }
+        ensures count { length self.new.steps ≤ length self.old.steps + 1 }
+        ensures stepped { OnOk result ((o : Outcome) × (self.new.steps ≡ step_of 0 command o ∷ self.old.steps)) }
+        ensures stands { Stands (Z.text z.now) self.old → Stands (Z.text z.now) self.new }
+        ensures fault { IfErr result (IsWorldFault (Z.text z.now) self.old command) }
+        ensures unchanged { OnErr result (self.new ≡ self.old) }
+    {
+        match self.step(0, command, z) {
+            Ok(_) => Ok(()),
+            Err(fault) => Err(fault),
+        }
+    }
+
     /// Reserves; where that is granted, books; where that is made, puts: all as thread 0.
     fn send<Z: Sealer>(
         &mut self,
@@ -58,18 +76,21 @@ impl World {
         ensures fault { IfErr result (λ fault. Stands (Z.text z.now) self.old → PlainFault (Z.text z.now) self.old.start (Sends end link lane.now) self.old.steps self.new.steps fault) }
     {
         let reserve = Command::Reserve { end, lane: *lane };
-        let reserved = self.step(0, reserve, z)?;
-        if !is_reserved(&reserved) {
+        let reserved = match self.step(0, reserve, z) {
+            Ok(outcome) => is_reserved(outcome),
+            Err(fault) => return Err(fault),
+        };
+        if !reserved {
             return Ok(());
         }
-        let booked = self.step(0, Command::Book { end }, z)?;
-        if !is_booked(&booked) {
+        let booked = match self.step(0, Command::Book { end }, z) {
+            Ok(outcome) => is_booked(outcome),
+            Err(fault) => return Err(fault),
+        };
+        if !booked {
             return Ok(());
         }
-        match self.step(0, Command::Put { end, link }, z) {
-            Ok(_) => Ok(()),
-            Err(fault) => Err(fault),
-        }
+        self.step_alone(Command::Put { end, link }, z)
     }
 
     /// Does one thing that a script asks for, as thread 0.
@@ -83,11 +104,10 @@ impl World {
         ensures fault { IfErr result (λ fault. Stands (Z.text z.now) self.old → PlainFault (Z.text z.now) self.old.start plain.now self.old.steps self.new.steps fault) }
     {
         match plain {
-            Plain::Do(command) => {
-                let command = command.copy(self.alloc())?;
-                self.step(0, command, z)?;
-                Ok(())
-            }
+            Plain::Do(command) => match command.copy(self.alloc()) {
+                Ok(command) => self.step_alone(command, z),
+                Err(_) => Err(StepFault::Memory),
+            },
             Plain::Send { end, link, lane } => self.send(*end, *link, lane, z),
         }
     }

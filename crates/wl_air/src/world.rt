@@ -81,10 +81,12 @@ impl World {
         ensures stands { IfOk result (λ w. (text : Sealing) → Stands text w) }
     {
         the_start_stands();
+        let kept = start.copy(alloc)?;
         let air = Air::new(alloc, start)?;
-        let start = start.copy(alloc)?;
-        let steps = Steps::new(alloc);
-        let journal = Journal { start, steps };
+        let journal = Journal {
+            start: kept,
+            steps: Steps::new(alloc),
+        };
         Ok(World {
             alloc,
             air,

@@ -1,4 +1,4 @@
--- What private readers answer.
+-- For private contracts alone: what private readers answer.
 use Rattle.std.specs.Prelude.{◌≤◌, length}
 use Rattle.wl_elem.specs.declared.fault.Refusal.{Refusal}
 use Rattle.wl_elem.specs.declared.fault.Fault.{Fault}

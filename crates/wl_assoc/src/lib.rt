@@ -21,6 +21,3 @@ pub use laws::{
 pub use links::{LinkAsk, LinkAsks, LinkState, LinkStates};
 pub use profiles::is_basic;
 pub use setup::{ask_profiles, links_of};
-
-#[cfg(test)]
-mod tests;

@@ -1,4 +1,4 @@
--- One item of a list, its pieces joined.
+-- For private contracts alone, but for `IsStopped`: one item of a list, its pieces joined.
 use Rattle.std.specs.Prelude.{◌≡◌, ◌≢◌, ℕ, ◌<◌, ◌≤◌, ◌-◌, ◌==◌, Bool, true, false, List, [], ◌∷◌, ◌++◌, length}
 use Rattle.wl_elem.specs.declared.why.Why.{Why}
 use Rattle.wl_elem.specs.declared.kind.ListKind.{ListKind}

@@ -1,4 +1,5 @@
--- Writing element lists and pieces.
+-- For private contracts alone, but for `HasLength` and `IsWithin`: writing element lists and
+-- pieces.
 use Rattle.std.specs.Prelude.{◌≡◌, ◌≤◌, ℕ, List, [], ◌∷◌, ◌++◌, length}
 use Rattle.wl_elem.specs.declared.kind.ListKind.{ListKind}
 use Rattle.wl_elem.specs.Cutting.{IsCut, joined, fragments, IsWritten}

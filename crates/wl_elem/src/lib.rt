@@ -40,6 +40,3 @@ pub use laws::{read_once, read_or_refused, read_what_was_written, spelled, spell
 pub use link::{LinkId, LinkSet};
 pub use put::put_item;
 pub use why::Why;
-
-#[cfg(test)]
-mod tests;

@@ -1,4 +1,4 @@
--- What comes of a body that a lane's window takes or refuses.
+-- For private contracts alone: what comes of a body that a lane's window takes or refuses.
 use Rattle.std.specs.Prelude.{ℕ, ◌≤◌, List, ◌++◌, length, Option, slice_set}
 use Rattle.wl_elem.specs.declared.lane.Lane.{Lane}
 use Rattle.wl_elem.specs.Lanes.{lane_index}

@@ -1,4 +1,5 @@
--- The parts of an end.
+-- For private contracts alone, but for `frame_count` and what an end starts with: the parts of an
+-- end.
 use Rattle.std.specs.Prelude.{◌≡◌, ℕ, ◌+◌, ◌^◌, ◌<◌, ◌≤◌, List, [], ◌∷◌, length, slice_index_or, slice_set}
 use Rattle.std.specs.List.{AllByRecursion}
 use Rattle.wl_elem.specs.declared.lane.Lane.{Lane}

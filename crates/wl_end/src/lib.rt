@@ -16,6 +16,3 @@ mod peeking;
 
 pub use end::End;
 pub use peeking::Peek;
-
-#[cfg(test)]
-mod tests;

@@ -1,4 +1,4 @@
--- The octets before the payload.
+-- For private contracts alone: the octets before the payload.
 use Rattle.std.specs.Prelude.{◌≡◌, ℕ, Option, is_some, IfSome}
 use Rattle.wl_frame.specs.declared.header.Kind.{Kind}
 use Rattle.wl_frame.specs.declared.header.Kind.TheVariants.{Qos, Action, AssocAsk, AssocReply}

@@ -26,6 +26,3 @@ pub use laws::{
 pub use nonce::nonce_of;
 pub use sealer::{Sealer, sealer_is_sealing};
 pub use stand_in::StandIn;
-
-#[cfg(test)]
-mod tests;

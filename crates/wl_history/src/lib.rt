@@ -27,6 +27,3 @@ pub use outcome::{KeptWhy, Outcome};
 pub use script::{Item, Plain, Script};
 pub use start::{EndStart, LinkStart, LinkStarts, Start};
 pub use step::{Journal, Step, Steps};
-
-#[cfg(test)]
-mod tests;

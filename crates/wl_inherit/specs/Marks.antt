@@ -1,4 +1,4 @@
--- Tables of identities, and what they say of lists.
+-- For private contracts alone: tables of identities, and what they say of lists.
 use Rattle.std.specs.Prelude.{◌≡◌, ℕ, ◌==◌, ◌&&◌, ◌||◌, not, Bool, false, IsTrue, List, slice_index_or, Option, Some, None}
 use Rattle.wl_elem.specs.Element.{ElementValue, has_shape}
 use Rattle.wl_inherit.specs.declared.identities.Identities.{Identities}

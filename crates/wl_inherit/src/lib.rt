@@ -22,6 +22,3 @@ pub use laws::{
 };
 pub use non_inheritance::NonInheritance;
 pub use shrinking::{ShrinkFault, shrink};
-
-#[cfg(test)]
-mod tests;

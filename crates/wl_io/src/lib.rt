@@ -5,8 +5,6 @@
 mod memory;
 mod read;
 mod standard;
-#[cfg(test)]
-mod tests;
 mod traits;
 mod write;
 

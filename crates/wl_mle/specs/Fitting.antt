@@ -1,4 +1,4 @@
--- The tests of a value, and how long it is as written.
+-- For private contracts alone: the tests of a value, and how long it is as written.
 use Rattle.std.specs.Prelude.{ℕ, ◌+◌, ◌<◌, length, map, IfSome}
 use Rattle.wl_elem.specs.Items.{items_len}
 use Rattle.wl_mle.specs.declared.basic.Common.{Common}

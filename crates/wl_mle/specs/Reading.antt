@@ -1,4 +1,4 @@
--- What is read at each field, for the contracts of the readers.
+-- For private contracts alone: what is read at each field, for the contracts of the readers.
 use Rattle.std.specs.Prelude.{◌≡◌, ℕ, zero, suc, ◌-◌, ◌/◌, ◌%◌, ◌==◌, ◌⊎◌, nat_lt, if◌then◌else◌, Bool, true, false, List, [], ◌∷◌, length, take, drop, map, Option, Some, None, Result, Ok, Err}
 use Rattle.wl_elem.specs.declared.why.Why.TheVariants.{ControlShort}
 use Rattle.wl_elem.specs.declared.fault.Refusal.{Refusal}

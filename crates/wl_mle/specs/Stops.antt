@@ -1,4 +1,4 @@
--- What is said where reading stops.
+-- For private contracts alone: what is said where reading stops.
 use Rattle.std.specs.Prelude.{◌≡◌, ℕ, Option, Some}
 use Rattle.wl_elem.specs.declared.why.Why.{Why}
 use Rattle.wl_elem.specs.declared.fault.Refusal.{Refusal}

@@ -1,4 +1,4 @@
--- Writing, for the contracts of the writers.
+-- For private contracts alone: writing, for the contracts of the writers.
 use Rattle.std.specs.Prelude.{◌≡◌, ℕ, ◌+◌, List, [], ◌∷◌, ◌++◌, length, Option}
 use Rattle.wl_elem.specs.declared.kind.ListKind.TheVariants.{Subelements}
 use Rattle.wl_elem.specs.declared.item.Item.{Item}

@@ -21,6 +21,3 @@ pub use laws::{read_once, read_or_refused, round_trip, spelled_once};
 pub use multi_link::MultiLink;
 pub use profile::Profile;
 pub use reconf::{Reconf, ReconfSub, ReconfSubs};
-
-#[cfg(test)]
-mod tests;

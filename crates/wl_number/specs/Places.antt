@@ -1,4 +1,4 @@
--- Places in a lane's ascending list.
+-- For private contracts alone: places in a lane's ascending list.
 use Rattle.std.specs.Prelude.{◌≡◌, ℕ, ◌≤◌, ◌&&◌, nat_lt, Bool, true, false, IsTrue, List, length, Option, Some, None, if◌then◌else◌}
 use Rattle.std.specs.List.{AllWithin, Contains}
 use Rattle.wl_number.specs.declared.numbers.Numbers.{Numbers}

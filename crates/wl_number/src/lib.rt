@@ -15,6 +15,3 @@ pub use laws::{
 };
 pub use numbers::{BookFault, KeysSpent, Numbers, Spent};
 pub use state::NumberState;
-
-#[cfg(test)]
-mod tests;

@@ -1,4 +1,5 @@
--- Members as they are written: each behind a comma, its name and a colon, where it is there.
+-- For private contracts alone: members as they are written: each behind a comma, its name and a
+-- colon, where it is there.
 use Rattle.std.specs.Prelude.{ℕ, Bool, true, false, List, [], ◌∷◌, ◌++◌, Option, Some, None, codes}
 use Rattle.std.specs.Fmt.{decimal}
 use Rattle.wl_elem.specs.declared.lane.Lane.{Lane}

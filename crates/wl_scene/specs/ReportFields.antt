@@ -1,4 +1,4 @@
--- The parts of a report as they are written.
+-- For private contracts alone: the parts of a report as they are written.
 use Rattle.std.specs.Prelude.{ℕ, ◌==◌, if◌then◌else◌, Bool, true, false, ◌||◌, List, [], ◌∷◌, ◌++◌, codes}
 use Rattle.std.specs.Fmt.{decimal}
 use Rattle.wl_elem.specs.Links.{has_link}

@@ -25,6 +25,3 @@ pub use report::report_line;
 pub use scenario::Scenario;
 pub use scene::read_scenario;
 pub use totals::{Released, Totals};
-
-#[cfg(test)]
-mod tests;

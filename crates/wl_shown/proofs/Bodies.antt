@@ -1,5 +1,5 @@
 -- Action and association bodies as they are shown.
-use Rattle.std.proofs.Common.{◌≡◌, ℕ, List, ◌++◌, Ok, Err, refl, ap, ◌∙◌, inr}
+use Rattle.std.proofs.Common.{◌≡◌, ℕ, List, ◌++◌, Result, Ok, Err, OnOk, IfErr, refl, ap, inr}
 use Rattle.std.specs.Prelude.{codes}
 use Rattle.wl_elem.specs.declared.fault.Fault.{Fault}
 use Rattle.wl_elem.specs.declared.fault.Fault.TheVariants as faults
@@ -20,29 +20,37 @@ use Rattle.wl_shown.specs.Shown.{Answer, ItemsAs, ActionAs, AskAs, ReplyAs, Adds
 abbrev ok_of : List ℕ → Answer
 ok_of text = Ok text
 
-pub action_shown : (octets : List ℕ) (action : Action) (front new : List ℕ) → actions.ReadAs octets (Ok action) → front ≡ codes " " ++ action_text action
-    → AddsText (ItemsAs (decoded_in action) 0 (elements_of action)) front new → ActionAs octets (Ok new)
-action_shown octets action front new reads is (text, items, added) =
-    inr (action, Ok text, reads, items, ap ok_of (added ∙ ap (λ (x : List ℕ). x ++ text) is))
+-- what comes last holds of all: the items of a body that was read are those of the octets
 
-pub action_refused : (octets : List ℕ) (action : Action) (fault : Fault) → actions.ReadAs octets (Ok action) → IsFaultOf (ItemsAs (decoded_in action) 0 (elements_of action)) fault → IsFaultOf (ActionAs octets) fault
-action_refused octets action (faults.Refused refusal) reads items = inr (action, Err refusal, reads, items, refl)
-action_refused octets action faults.Memory reads items = tt
+pub action_shown : (octets : List ℕ) (action : Action) (r : Result Unit Fault) (new : List ℕ) → actions.ReadAs octets (Ok action)
+    → OnOk r (AddsText (ItemsAs (decoded_in action) 0 (elements_of action)) (codes " " ++ action_text action) new) → OnOk r (ActionAs octets (Ok new))
+action_shown octets action (Ok done) new reads (text, items, added) = inr (action, Ok text, reads, items, ap ok_of added)
+action_shown octets action (Err fault) new reads shown = tt
 
-pub ask_shown : (octets : List ℕ) (ask : AssocAsk) (asks : List LinkAsk) (front mid new : List ℕ) → ReadsAsk octets (Ok ask) → AsksAs ask (Ok asks) → front ≡ codes " " ++ ask_text ask
-    → AddsText (ItemsAs which.Basic 0 ask.elements) front mid → new ≡ mid ++ asks_text asks → AskAs octets (Ok new)
-ask_shown octets ask asks front mid new reads tells is (text, items, added) more =
-    inr (inr (ask, asks, Ok text, reads, tells, items, ap ok_of (more ∙ ap (λ (x : List ℕ). x ++ asks_text asks) (added ∙ ap (λ (x : List ℕ). x ++ text) is))))
+pub action_refused : (octets : List ℕ) (action : Action) (r : Result Unit Fault) → actions.ReadAs octets (Ok action)
+    → IfErr r (IsFaultOf (ItemsAs (decoded_in action) 0 (elements_of action))) → IfErr r (IsFaultOf (ActionAs octets))
+action_refused octets action (Ok done) reads items = tt
+action_refused octets action (Err (faults.Refused refusal)) reads items = inr (action, Err refusal, reads, items, refl)
+action_refused octets action (Err faults.Memory) reads items = tt
 
-pub ask_refused : (octets : List ℕ) (ask : AssocAsk) (asks : List LinkAsk) (fault : Fault) → ReadsAsk octets (Ok ask) → AsksAs ask (Ok asks) → IsFaultOf (ItemsAs which.Basic 0 ask.elements) fault → IsFaultOf (AskAs octets) fault
-ask_refused octets ask asks (faults.Refused refusal) reads tells items = inr (inr (ask, asks, Err refusal, reads, tells, items, refl))
-ask_refused octets ask asks faults.Memory reads tells items = tt
+pub ask_shown : (octets : List ℕ) (ask : AssocAsk) (asks : List LinkAsk) (r : Result Unit Fault) (new : List ℕ) → ReadsAsk octets (Ok ask) → AsksAs ask (Ok asks)
+    → OnOk r ((text : List ℕ) × ItemsAs which.Basic 0 ask.elements (Ok text) × (new ≡ codes " " ++ ask_text ask ++ text ++ asks_text asks)) → OnOk r (AskAs octets (Ok new))
+ask_shown octets ask asks (Ok done) new reads tells (text, items, is) = inr (inr (ask, asks, Ok text, reads, tells, items, ap ok_of is))
+ask_shown octets ask asks (Err fault) new reads tells shown = tt
 
-pub reply_shown : (octets : List ℕ) (reply : AssocReply) (states : List LinkState) (front mid new : List ℕ) → ReadsReply octets (Ok reply) → StatesAs reply 0 (Ok states) → front ≡ codes " " ++ reply_text reply
-    → AddsText (ItemsAs which.Basic 0 reply.elements) front mid → new ≡ mid ++ states_text states → ReplyAs octets (Ok new)
-reply_shown octets reply states front mid new reads tells is (text, items, added) more =
-    inr (inr (reply, states, Ok text, reads, tells, items, ap ok_of (more ∙ ap (λ (x : List ℕ). x ++ states_text states) (added ∙ ap (λ (x : List ℕ). x ++ text) is))))
+pub ask_refused : (octets : List ℕ) (ask : AssocAsk) (asks : List LinkAsk) (r : Result Unit Fault) → ReadsAsk octets (Ok ask) → AsksAs ask (Ok asks)
+    → IfErr r (IsFaultOf (ItemsAs which.Basic 0 ask.elements)) → IfErr r (IsFaultOf (AskAs octets))
+ask_refused octets ask asks (Ok done) reads tells items = tt
+ask_refused octets ask asks (Err (faults.Refused refusal)) reads tells items = inr (inr (ask, asks, Err refusal, reads, tells, items, refl))
+ask_refused octets ask asks (Err faults.Memory) reads tells items = tt
 
-pub reply_refused : (octets : List ℕ) (reply : AssocReply) (states : List LinkState) (fault : Fault) → ReadsReply octets (Ok reply) → StatesAs reply 0 (Ok states) → IsFaultOf (ItemsAs which.Basic 0 reply.elements) fault → IsFaultOf (ReplyAs octets) fault
-reply_refused octets reply states (faults.Refused refusal) reads tells items = inr (inr (reply, states, Err refusal, reads, tells, items, refl))
-reply_refused octets reply states faults.Memory reads tells items = tt
+pub reply_shown : (octets : List ℕ) (reply : AssocReply) (states : List LinkState) (r : Result Unit Fault) (new : List ℕ) → ReadsReply octets (Ok reply) → StatesAs reply 0 (Ok states)
+    → OnOk r ((text : List ℕ) × ItemsAs which.Basic 0 reply.elements (Ok text) × (new ≡ codes " " ++ reply_text reply ++ text ++ states_text states)) → OnOk r (ReplyAs octets (Ok new))
+reply_shown octets reply states (Ok done) new reads tells (text, items, is) = inr (inr (reply, states, Ok text, reads, tells, items, ap ok_of is))
+reply_shown octets reply states (Err fault) new reads tells shown = tt
+
+pub reply_refused : (octets : List ℕ) (reply : AssocReply) (states : List LinkState) (r : Result Unit Fault) → ReadsReply octets (Ok reply) → StatesAs reply 0 (Ok states)
+    → IfErr r (IsFaultOf (ItemsAs which.Basic 0 reply.elements)) → IfErr r (IsFaultOf (ReplyAs octets))
+reply_refused octets reply states (Ok done) reads tells items = tt
+reply_refused octets reply states (Err (faults.Refused refusal)) reads tells items = inr (inr (reply, states, Err refusal, reads, tells, items, refl))
+reply_refused octets reply states (Err faults.Memory) reads tells items = tt

@@ -1,8 +1,9 @@
 -- The loop that judges the lines of an input.
 use Rattle.std.proofs.Common.{◌≡◌, ℕ, ◌+◌, ◌<◌, Bool, true, false, List, [], ◌∷◌, ◌++◌, length, Option, Some, None, refl, sym, ap, subst, ◌∙◌, append_assoc, arith}
 use Rattle.std.proofs.lemmas.List.{append-nil}
-use Rattle.wl_shown.specs.Line.{lines_of}
-use Rattle.wl_shown.specs.Checked.{VerdictLines, AddsVerdict, first_refused, refused_of_all, refused_with}
+use Rattle.wl_shown.specs.declared.line.Kind.{Kind}
+use Rattle.wl_shown.specs.Line.{lines_of, IsHexLine}
+use Rattle.wl_shown.specs.Checked.{VerdictOf, VerdictLines, AddsAnswer, AddsVerdict, first_refused, refused_of_all, refused_with}
 use Rattle.wl_shown.proofs.Texts.{Counts, counts_begin, counts_more}
 
 -- whatever the verdicts on the lines left are, with those so far they are those of the whole input
@@ -44,3 +45,9 @@ pub ends : (input rest : List ℕ) (number : ℕ) (out : List ℕ) (refused : Op
 ends input rest number out refused so_far nil =
     let none : VerdictLines (lines_of rest) [] None = subst (λ (x : List ℕ). VerdictLines (lines_of x) [] None) (sym nil) (refl, refl) in
     subst (VerdictLines (lines_of input) out) (nothing_behind number refused) (subst (λ (x : List ℕ). VerdictLines (lines_of input) x (refused_of_all number refused None)) (append-nil out) (so_far.judged [] None none))
+
+-- the verdict on a line, and its line end
+pub verdict_added : (line : List ℕ) (kind : Kind) (octets same : List ℕ) (accepted : Bool) (old mid new : List ℕ) → IsHexLine line kind octets → same ≡ octets → AddsAnswer kind same accepted old mid → new ≡ mid ++ 10 ∷ []
+    → AddsVerdict line accepted old new
+verdict_added line kind octets same accepted old mid new is_line is (verdict, judged, added) ended =
+    (verdict, (kind, octets, is_line, subst (λ (x : List ℕ). VerdictOf kind x accepted verdict) is judged), ended ∙ ap (λ (x : List ℕ). x ++ 10 ∷ []) added ∙ append_assoc old verdict (10 ∷ []))

@@ -6,6 +6,7 @@ use Rattle.wl_shown.specs.declared.line.LineFault.TheVariants as lines
 use Rattle.wl_shown.specs.declared.decode.TextFault.{TextFault}
 use Rattle.wl_shown.specs.declared.line.Kind.{Kind}
 use Rattle.wl_shown.specs.Line.{lines_of, IsLineFault, IsHexLine}
+use Rattle.wl_shown.specs.Shown.{Shown, AddsShown}
 use Rattle.wl_shown.specs.Decoded.{ShownLines, IsFirstBad, IsTextFault, IsFaultAt, AddsLine}
 
 -- what is no hex line in the rest is none in the whole, behind so many lines
@@ -53,3 +54,8 @@ pub ends : (input rest : List ℕ) (number : ℕ) (out : List ℕ) → Continues
 ends input rest number out so_far nil =
     let none : ShownLines (lines_of rest) [] = subst (λ (x : List ℕ). ShownLines (lines_of x) []) (sym nil) refl in
     subst (ShownLines (lines_of input)) (append-nil out) (so_far.shown [] none)
+
+-- what is shown for a line, and its line end
+pub line_added : (line : List ℕ) (kind : Kind) (octets same : List ℕ) (old mid new : List ℕ) → IsHexLine line kind octets → same ≡ octets → AddsShown kind same old mid → new ≡ mid ++ 10 ∷ [] → AddsLine line old new
+line_added line kind octets same old mid new is_line is (shown, is_shown, added) ended =
+    (shown, (kind, octets, is_line, subst (λ (x : List ℕ). Shown kind x shown) is is_shown), ended ∙ ap (λ (x : List ℕ). x ++ 10 ∷ []) added ∙ append_assoc old shown (10 ∷ []))

@@ -1,5 +1,5 @@
 -- A shown value is the texts of its segments.
-use Rattle.std.proofs.Common.{◌≡◌, ℕ, List, [], ◌∷◌, ◌++◌, refl, sym, ap, ◌∙◌, append_assoc}
+use Rattle.std.proofs.Common.{◌≡◌, ℕ, List, [], ◌∷◌, ◌++◌, Result, OnOk, refl, sym, ap, subst, ◌∙◌, append_assoc}
 use Rattle.std.proofs.lemmas.List.{append-nil}
 use Rattle.std.specs.Prelude.{codes}
 use Rattle.wl_shown.specs.Parts.{more_parts, joined_parts}
@@ -69,3 +69,21 @@ quint old name a b c d f comma end = simp (append_assoc, append-nil)
 -- three texts in turn
 pub in_turn : (old a b c : List ℕ) → ((old ++ a) ++ b) ++ c ≡ old ++ (a ++ (b ++ c))
 in_turn old a b c = simp append_assoc
+
+-- parts in turn, each behind its comma
+
+pub two_parts : (old a b : List ℕ) → (old ++ a) ++ b ≡ old ++ (a ++ (b ++ []))
+two_parts old a b = simp (append_assoc, append-nil)
+
+pub four_parts : (old a b c d : List ℕ) → (((old ++ a) ++ b) ++ c) ++ d ≡ old ++ (a ++ (b ++ (c ++ (d ++ []))))
+four_parts old a b c d = simp (append_assoc, append-nil)
+
+pub five_parts : (old a b c d e : List ℕ) → ((((old ++ a) ++ b) ++ c) ++ d) ++ e ≡ old ++ (a ++ (b ++ (c ++ (d ++ (e ++ [])))))
+five_parts old a b c d e = simp (append_assoc, append-nil)
+
+pub six_parts : (old a b c d e f : List ℕ) → (((((old ++ a) ++ b) ++ c) ++ d) ++ e) ++ f ≡ old ++ (a ++ (b ++ (c ++ (d ++ (e ++ (f ++ []))))))
+six_parts old a b c d e f = simp (append_assoc, append-nil)
+
+-- what the last step adds is what all of them add
+pub all_added : {T E : Type 0} (r : Result T E) (new last all : List ℕ) → OnOk r (new ≡ last) → last ≡ all → OnOk r (new ≡ all)
+all_added r new last all added same = subst (λ (x : List ℕ). OnOk r (new ≡ x)) same added

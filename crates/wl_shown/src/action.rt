@@ -53,16 +53,14 @@ fn push_list(out: &mut String, list: &LinkStatuses) -> Result<(), Memory>
     ensures { OnOk result (string_bytes out.new ≡ string_bytes out.old ++ (codes ",list=" ++ statuses_text list.now)) }
 {
     out.push_str(",list=")?;
-    push_statuses(out, list.as_slice())?;
-    Ok(())
+    push_statuses(out, list.as_slice())
 }
 
 /// Adds the fields of a mapping request.
 fn push_map_ask(out: &mut String, token: u8) -> Result<(), Memory>
     ensures { OnOk result (string_bytes out.new ≡ string_bytes out.old ++ map_ask_text token) }
 {
-    push_last(out, "map-ask(token=", u64::from(token))?;
-    Ok(())
+    push_last(out, "map-ask(token=", u64::from(token))
 }
 
 /// Adds the fields of a mapping reply.
@@ -70,16 +68,14 @@ fn push_map_reply(out: &mut String, token: u8, status: u16) -> Result<(), Memory
     ensures { OnOk result (string_bytes out.new ≡ string_bytes out.old ++ map_reply_text token status) }
 {
     put_number(out, "map-reply(token=", u64::from(token))?;
-    push_last(out, ",status=", u64::from(status))?;
-    Ok(())
+    push_last(out, ",status=", u64::from(status))
 }
 
 /// Adds a mapping teardown.
 fn push_teardown(alloc: Global, out: &mut String, rest: &[u8]) -> Result<(), Memory>
     ensures { OnOk result (string_bytes out.new ≡ string_bytes out.old ++ teardown_text rest.now) }
 {
-    push_rest(alloc, out, "map-teardown(rest=", rest)?;
-    Ok(())
+    push_rest(alloc, out, "map-teardown(rest=", rest)
 }
 
 /// Adds an EPCS body.
@@ -87,8 +83,7 @@ fn push_epcs(alloc: Global, out: &mut String, action: u8, rest: &[u8]) -> Result
     ensures { OnOk result (string_bytes out.new ≡ string_bytes out.old ++ epcs_text action rest.now) }
 {
     put_number(out, "epcs(action=", u64::from(action))?;
-    push_rest(alloc, out, ",rest=", rest)?;
-    Ok(())
+    push_rest(alloc, out, ",rest=", rest)
 }
 
 /// The link bitmap of an EML notice, as wide as a shown number.
@@ -121,16 +116,14 @@ fn push_eml(
     put_number(out, ",control=", u64::from(control))?;
     put_optional(out, ",links=", wide_links(links))?;
     put_optional(out, ",update=", wide_update(update))?;
-    push_rest(alloc, out, ",rest=", rest)?;
-    Ok(())
+    push_rest(alloc, out, ",rest=", rest)
 }
 
 /// Adds the fields of a reconfiguration request.
 fn push_reconf_ask(out: &mut String, token: u8) -> Result<(), Memory>
     ensures { OnOk result (string_bytes out.new ≡ string_bytes out.old ++ reconf_ask_text token) }
 {
-    push_last(out, "reconf-ask(token=", u64::from(token))?;
-    Ok(())
+    push_last(out, "reconf-ask(token=", u64::from(token))
 }
 
 /// Adds a reply to a reconfiguration request.
@@ -145,8 +138,7 @@ fn push_reconf_reply(
 {
     put_number(out, "reconf-reply(token=", u64::from(token))?;
     push_list(out, list)?;
-    push_rest(alloc, out, ",rest=", rest)?;
-    Ok(())
+    push_rest(alloc, out, ",rest=", rest)
 }
 
 /// Adds the fields of an ADDBA request.
@@ -162,8 +154,7 @@ fn push_addba_ask(
     put_number(out, "addba-ask(token=", u64::from(token))?;
     put_number(out, ",params=", u64::from(params))?;
     put_number(out, ",timeout=", u64::from(timeout))?;
-    push_last(out, ",start=", u64::from(start))?;
-    Ok(())
+    push_last(out, ",start=", u64::from(start))
 }
 
 /// Adds the fields of an ADDBA response.
@@ -179,8 +170,7 @@ fn push_addba_reply(
     put_number(out, "addba-reply(token=", u64::from(token))?;
     put_number(out, ",status=", u64::from(status))?;
     put_number(out, ",params=", u64::from(params))?;
-    push_last(out, ",timeout=", u64::from(timeout))?;
-    Ok(())
+    push_last(out, ",timeout=", u64::from(timeout))
 }
 
 /// Adds a DELBA.
@@ -195,8 +185,7 @@ fn push_delba(
 {
     put_number(out, "delba(params=", u64::from(params))?;
     put_number(out, ",reason=", u64::from(reason))?;
-    push_rest(alloc, out, ",rest=", rest)?;
-    Ok(())
+    push_rest(alloc, out, ",rest=", rest)
 }
 
 /// Adds a body's own fields.
@@ -297,6 +286,19 @@ fn push_elements(alloc: Global, out: &mut String, action: &Action) -> Result<(),
     }
 }
 
+/// Makes `items` an action body that was read; or answers the fault of an element, and then `items` has
+/// no meaning.
+fn put_read(alloc: Global, items: &mut String, action: &Action) -> Result<(), Fault>
+    requires { length (elements_of action.now) < 2 ^ 32 }
+    ensures shown { OnOk result (AddsText (ItemsAs (decoded_in action.now) 0 (elements_of action.now)) (codes " " ++ action_text action.now) (string_bytes items.new)) }
+    ensures refused { IfErr result (IsFaultOf (ItemsAs (decoded_in action.now) 0 (elements_of action.now))) }
+{
+    items.clear();
+    items.push_str(" ")?;
+    push_action(alloc, items, action)?;
+    push_elements(alloc, items, action)
+}
+
 /// Makes `items` the action body that the octets are; or answers their fault, and then `items` has no
 /// meaning.
 pub fn put_action(alloc: Global, items: &mut String, octets: &[u8]) -> Result<(), Fault>
@@ -304,15 +306,8 @@ pub fn put_action(alloc: Global, items: &mut String, octets: &[u8]) -> Result<()
     ensures shown { OnOk result (ActionAs octets.now (Ok (string_bytes items.new))) }
     ensures refused { IfErr result (IsFaultOf (ActionAs octets.now)) }
 {
-    let action = match decode_action(alloc, octets) {
-        Ok(action) => action,
-        Err(fault) => return Err(fault),
-    };
-    items.clear();
-    items.push_str(" ")?;
-    push_action(alloc, items, &action)?;
-    match push_elements(alloc, items, &action) {
-        Ok(()) => Ok(()),
+    match decode_action(alloc, octets) {
+        Ok(action) => put_read(alloc, items, &action),
         Err(fault) => Err(fault),
     }
 }

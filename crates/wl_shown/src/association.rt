@@ -1,10 +1,11 @@
 //! The shown texts of association bodies.
 
-ghost use Rattle.std.specs.Prelude.{◌≡◌, ◌≤◌, ◌++◌, flat_map, length, Ok, OnOk, IfErr};
+ghost use Rattle.std.specs.Prelude.{◌≡◌, ◌<◌, ◌≤◌, ◌^◌, ◌++◌, ℕ, List, flat_map, length, codes, Ok, OnOk, IfErr};
 ghost use Rattle.std.specs.String.{string_bytes};
 ghost use Rattle.wl_elem.specs.Element.{body_limit};
 ghost use Rattle.wl_shown.specs.AssocText.{ask_text, reply_text, raw_items, link_fields, link_ask_text, asks_text, link_state_text, states_text};
-ghost use Rattle.wl_shown.specs.Shown.{AskAs, ReplyAs, IsFaultOf};
+ghost use Rattle.wl_shown.specs.Shown.{ItemsAs, AskAs, ReplyAs, IsFaultOf};
+ghost use Rattle.wl_shown.specs.declared.item.Decoded.TheVariants.{Basic};
 
 use crate::item::{Decoded, push_items};
 use crate::show::{push_element, push_last, put_address, put_number};
@@ -31,8 +32,7 @@ fn push_link_fields(alloc: Global, out: &mut String, a: &LinkAsk) -> Result<(), 
 {
     put_number(out, " / link=", u64::from(a.link.get()))?;
     put_address(alloc, out, " mac=", a.mac)?;
-    put_number(out, " capability=", u64::from(a.capability))?;
-    Ok(())
+    put_number(out, " capability=", u64::from(a.capability))
 }
 
 /// Adds a link that is asked for: its fields, and its elements.
@@ -41,8 +41,7 @@ fn push_link_ask(alloc: Global, out: &mut String, a: &LinkAsk) -> Result<(), Mem
     ensures { OnOk result (string_bytes out.new ≡ string_bytes out.old ++ link_ask_text a.now) }
 {
     push_link_fields(alloc, out, a)?;
-    push_raw(alloc, out, &a.elements)?;
-    Ok(())
+    push_raw(alloc, out, &a.elements)
 }
 
 /// Adds what is asked for on each link.
@@ -61,8 +60,7 @@ fn push_link_state(out: &mut String, s: &LinkState) -> Result<(), Memory>
 {
     put_number(out, " / link=", u64::from(s.link.get()))?;
     put_number(out, " capability=", u64::from(s.capability))?;
-    put_number(out, " status=", u64::from(s.status))?;
-    Ok(())
+    put_number(out, " status=", u64::from(s.status))
 }
 
 /// Adds what each link was answered.
@@ -90,8 +88,7 @@ fn push_ask(out: &mut String, ask: &AssocAsk) -> Result<(), Memory>
     ensures { OnOk result (string_bytes out.new ≡ string_bytes out.old ++ ask_text ask.now) }
 {
     put_number(out, "assoc-ask(capability=", u64::from(ask.capability))?;
-    push_last(out, ",listen=", u64::from(ask.listen))?;
-    Ok(())
+    push_last(out, ",listen=", u64::from(ask.listen))
 }
 
 /// Adds a response's own fields.
@@ -100,7 +97,52 @@ fn push_reply(out: &mut String, reply: &AssocReply) -> Result<(), Memory>
 {
     put_number(out, "assoc-reply(capability=", u64::from(reply.capability))?;
     put_number(out, ",status=", u64::from(reply.status))?;
-    push_last(out, ",aid=", u64::from(reply.aid))?;
+    push_last(out, ",aid=", u64::from(reply.aid))
+}
+
+/// Makes `items` a request that was read, with what it asks for on each link; or answers the fault of
+/// an element, and then `items` has no meaning.
+fn put_read_ask(
+    alloc: Global,
+    items: &mut String,
+    ask: &AssocAsk,
+    asks: &[LinkAsk],
+) -> Result<(), Fault>
+    requires { length ask.now.elements < 2 ^ 32 }
+    ensures shown { OnOk result ((text : List ℕ) × ItemsAs Basic 0 ask.now.elements (Ok text) × (string_bytes items.new ≡ codes " " ++ ask_text ask.now ++ text ++ asks_text asks.now)) }
+    ensures refused { IfErr result (IsFaultOf (ItemsAs Basic 0 ask.now.elements)) }
+{
+    items.clear();
+    items.push_str(" ")?;
+    push_ask(items, ask)?;
+    match push_items(alloc, items, Decoded::Basic, &ask.elements) {
+        Ok(()) => {}
+        Err(fault) => return Err(fault),
+    }
+    push_asks(alloc, items, asks)?;
+    Ok(())
+}
+
+/// Makes `items` a response that was read, with what each link was answered; or answers the fault of
+/// an element, and then `items` has no meaning.
+fn put_read_reply(
+    alloc: Global,
+    items: &mut String,
+    reply: &AssocReply,
+    states: &[LinkState],
+) -> Result<(), Fault>
+    requires { length reply.now.elements < 2 ^ 32 }
+    ensures shown { OnOk result ((text : List ℕ) × ItemsAs Basic 0 reply.now.elements (Ok text) × (string_bytes items.new ≡ codes " " ++ reply_text reply.now ++ text ++ states_text states.now)) }
+    ensures refused { IfErr result (IsFaultOf (ItemsAs Basic 0 reply.now.elements)) }
+{
+    items.clear();
+    items.push_str(" ")?;
+    push_reply(items, reply)?;
+    match push_items(alloc, items, Decoded::Basic, &reply.elements) {
+        Ok(()) => {}
+        Err(fault) => return Err(fault),
+    }
+    push_states(items, states)?;
     Ok(())
 }
 
@@ -115,19 +157,10 @@ pub fn put_ask(alloc: Global, items: &mut String, octets: &[u8]) -> Result<(), F
         Ok(ask) => ask,
         Err(fault) => return Err(fault),
     };
-    let asks = match ask_profiles(alloc, &ask) {
-        Ok(asks) => asks,
-        Err(fault) => return Err(fault),
-    };
-    items.clear();
-    items.push_str(" ")?;
-    push_ask(items, &ask)?;
-    match push_items(alloc, items, Decoded::Basic, &ask.elements) {
-        Ok(()) => {}
-        Err(fault) => return Err(fault),
+    match ask_profiles(alloc, &ask) {
+        Ok(asks) => put_read_ask(alloc, items, &ask, asks.as_slice()),
+        Err(fault) => Err(fault),
     }
-    push_asks(alloc, items, asks.as_slice())?;
-    Ok(())
 }
 
 /// Makes `items` the association response that the octets are, with what each link was answered; or
@@ -145,17 +178,8 @@ pub fn put_reply(alloc: Global, items: &mut String, octets: &[u8]) -> Result<(),
     let Some(on) = LinkId::new(0) else {
         unreachable!();
     };
-    let states = match links_of(alloc, &reply, on) {
-        Ok(states) => states,
-        Err(fault) => return Err(fault),
-    };
-    items.clear();
-    items.push_str(" ")?;
-    push_reply(items, &reply)?;
-    match push_items(alloc, items, Decoded::Basic, &reply.elements) {
-        Ok(()) => {}
-        Err(fault) => return Err(fault),
+    match links_of(alloc, &reply, on) {
+        Ok(states) => put_read_reply(alloc, items, &reply, states.as_slice()),
+        Err(fault) => Err(fault),
     }
-    push_states(items, states.as_slice())?;
-    Ok(())
 }

@@ -63,8 +63,7 @@ fn push_kind(out: &mut String, kind: &Kind) -> Result<(), Memory>
     out.push_str(",to=")?;
     out.push_str(to_text(kind))?;
     put_optional(out, ",tid=", tid_of(kind))?;
-    put_optional(out, ",rest=", rest_of(kind))?;
-    Ok(())
+    put_optional(out, ",rest=", rest_of(kind))
 }
 
 /// Adds the flags and the duration.
@@ -74,8 +73,7 @@ fn push_flags(out: &mut String, h: &Header) -> Result<(), Memory>
     put_flag(out, ",retry=", h.retry)?;
     put_flag(out, ",power=", h.power)?;
     put_flag(out, ",more=", h.more)?;
-    put_number(out, ",duration=", u64::from(h.duration))?;
-    Ok(())
+    put_number(out, ",duration=", u64::from(h.duration))
 }
 
 /// Adds the addresses and the sequence number.
@@ -85,8 +83,7 @@ fn push_addresses(alloc: Global, out: &mut String, h: &Header) -> Result<(), Mem
     put_octets(alloc, out, ",a1=", &h.a1.octets())?;
     put_octets(alloc, out, ",a2=", &h.a2.octets())?;
     put_octets(alloc, out, ",a3=", &h.a3.octets())?;
-    put_number(out, ",number=", u64::from(h.number))?;
-    Ok(())
+    put_number(out, ",number=", u64::from(h.number))
 }
 
 /// Adds the CCMP header, or `-` for each of its fields.
@@ -122,6 +119,5 @@ pub fn push_frame(alloc: Global, out: &mut String, f: &Frame<'_>) -> Result<(), 
     push_flags(out, &f.header)?;
     push_addresses(alloc, out, &f.header)?;
     push_protection(out, &f.protection)?;
-    push_payload(alloc, out, f.payload)?;
-    Ok(())
+    push_payload(alloc, out, f.payload)
 }

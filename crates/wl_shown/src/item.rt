@@ -10,7 +10,7 @@ use crate::multi_link::push_ml;
 use crate::show::push_element;
 use std::alloc::Global;
 use wl_assoc::is_basic;
-use wl_elem::{Element, Elements, Fault, Refusal, decode_elements};
+use wl_elem::{Element, Elements, Fault, Memory, Refusal, decode_elements};
 use wl_mle::decode_ml;
 use wl_ttlm::decode_ttlm;
 
@@ -79,8 +79,10 @@ fn push_mapping(alloc: Global, out: &mut String, e: &Element) -> Result<(), Faul
         Ok(t) => t,
         Err(fault) => return Err(fault),
     };
-    push_ttlm(alloc, out, &t)?;
-    Ok(())
+    match push_ttlm(alloc, out, &t) {
+        Ok(()) => Ok(()),
+        Err(Memory) => Err(Fault::Memory),
+    }
 }
 
 /// Adds a Multi-Link element as its value.
@@ -93,8 +95,10 @@ fn push_multi_link(alloc: Global, out: &mut String, e: &Element) -> Result<(), F
         Ok(value) => value,
         Err(fault) => return Err(fault),
     };
-    push_ml(alloc, out, &value)?;
-    Ok(())
+    match push_ml(alloc, out, &value) {
+        Ok(()) => Ok(()),
+        Err(Memory) => Err(Fault::Memory),
+    }
 }
 
 /// Adds an element as its value, where such elements are decoded, or as octets.

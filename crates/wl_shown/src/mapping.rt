@@ -5,7 +5,7 @@ ghost use Rattle.std.specs.String.{string_bytes};
 ghost use Rattle.wl_shown.specs.Parts.{joined_parts, more_parts};
 ghost use Rattle.wl_shown.specs.TtlmText.{map_items, sum_text, ttlm_parts, ttlm_rest, ttlm_text, map_text};
 
-use crate::show::{push_number, put_flag, put_number, put_octets, put_optional};
+use crate::show::{push_number, put_flag, put_number, put_octets, put_optional, put_word};
 use std::alloc::Global;
 use wl_elem::Memory;
 use wl_ttlm::Ttlm;
@@ -51,7 +51,7 @@ fn push_fields(out: &mut String, t: &Ttlm) -> Result<(), Memory>
     put_flag(out, ",default=", t.default)?;
     put_number(out, ",spare=", u64::from(t.spare))?;
     put_flag(out, ",narrow=", t.narrow)?;
-    put_optional(out, ",switch=", t.switch.map(u64::from))?;
+    put_word(out, ",switch=", t.switch)?;
     put_optional(out, ",duration=", t.duration.map(u64::from))
 }
 
@@ -71,6 +71,5 @@ pub fn push_ttlm(alloc: Global, out: &mut String, t: &Ttlm) -> Result<(), Memory
     ensures { OnOk result (string_bytes out.new ≡ string_bytes out.old ++ ttlm_text t.now) }
 {
     push_fields(out, t)?;
-    push_rest(alloc, out, t)?;
-    Ok(())
+    push_rest(alloc, out, t)
 }

@@ -7,7 +7,8 @@ ghost use Rattle.wl_shown.specs.Parts.{joined_parts, more_parts};
 ghost use Rattle.wl_shown.specs.MlText.{profile_control, profile_info, rest_parts, profile_text, change_control, change_info, change_text, other_text, basic_sub_text, reconf_sub_text, more_subs, subs_text, type_parts, common_basics, common_capabilities, common_info, reconf_info, subs_parts, other_parts, basic_text, reconf_text, ml_text};
 
 use crate::show::{
-    push_hex, push_number, put_address, put_flag, put_number, put_octets, put_optional,
+    push_hex, push_number, put_address, put_flag, put_number, put_octet, put_octets, put_optional,
+    put_word,
 };
 use std::alloc::Global;
 use wl_elem::Memory;
@@ -29,11 +30,11 @@ fn push_profile_info(alloc: Global, out: &mut String, p: &Profile) -> Result<(),
     ensures { OnOk result (string_bytes out.new ≡ string_bytes out.old ++ more_parts (profile_info p.now)) }
 {
     put_address(alloc, out, ",mac=", p.mac)?;
-    put_optional(out, ",beacon=", p.beacon.map(u64::from))?;
+    put_word(out, ",beacon=", p.beacon)?;
     put_optional(out, ",tsf=", p.tsf)?;
-    put_optional(out, ",dtim=", p.dtim.map(u64::from))?;
-    put_optional(out, ",nstr=", p.nstr.map(u64::from))?;
-    put_optional(out, ",count=", p.count.map(u64::from))
+    put_word(out, ",dtim=", p.dtim)?;
+    put_word(out, ",nstr=", p.nstr)?;
+    put_octet(out, ",count=", p.count)
 }
 
 /// Adds what stands behind the fields of a profile, and its end.
@@ -52,8 +53,7 @@ fn push_profile(alloc: Global, out: &mut String, p: &Profile) -> Result<(), Memo
 {
     push_profile_control(out, p)?;
     push_profile_info(alloc, out, p)?;
-    push_rest(alloc, out, p.tail.as_slice(), p.body.as_slice())?;
-    Ok(())
+    push_rest(alloc, out, p.tail.as_slice(), p.body.as_slice())
 }
 
 /// Adds the control word of a Reconfiguration profile.
@@ -73,7 +73,7 @@ fn push_change(alloc: Global, out: &mut String, c: &LinkChange) -> Result<(), Me
 {
     push_change_control(out, c)?;
     put_address(alloc, out, ",mac=", c.mac)?;
-    put_optional(out, ",timer=", c.timer.map(u64::from))?;
+    put_word(out, ",timer=", c.timer)?;
     push_rest(alloc, out, c.tail.as_slice(), c.body.as_slice())
 }
 
@@ -161,8 +161,7 @@ fn push_type(out: &mut String, name: &str, spare: u16) -> Result<(), Memory>
 {
     out.push_str("ml(")?;
     out.push_str(name)?;
-    put_number(out, ",spare=", u64::from(spare))?;
-    Ok(())
+    put_number(out, ",spare=", u64::from(spare))
 }
 
 /// Adds the first fields of Common Info of a Basic element.
@@ -170,19 +169,19 @@ fn push_common_basics(alloc: Global, out: &mut String, c: &Common) -> Result<(),
     ensures { OnOk result (string_bytes out.new ≡ string_bytes out.old ++ more_parts (common_basics c.now)) }
 {
     put_octets(alloc, out, ",mld=", &c.mld.octets())?;
-    put_optional(out, ",link=", c.link.map(u64::from))?;
-    put_optional(out, ",count=", c.count.map(u64::from))?;
-    put_optional(out, ",sync=", c.sync.map(u64::from))
+    put_octet(out, ",link=", c.link)?;
+    put_octet(out, ",count=", c.count)?;
+    put_word(out, ",sync=", c.sync)
 }
 
 /// Adds the other fields of Common Info of a Basic element.
 fn push_common_capabilities(out: &mut String, c: &Common) -> Result<(), Memory>
     ensures { OnOk result (string_bytes out.new ≡ string_bytes out.old ++ more_parts (common_capabilities c.now)) }
 {
-    put_optional(out, ",eml=", c.eml.map(u64::from))?;
-    put_optional(out, ",caps=", c.caps.map(u64::from))?;
-    put_optional(out, ",apid=", c.apid.map(u64::from))?;
-    put_optional(out, ",ext=", c.ext.map(u64::from))
+    put_word(out, ",eml=", c.eml)?;
+    put_word(out, ",caps=", c.caps)?;
+    put_octet(out, ",apid=", c.apid)?;
+    put_word(out, ",ext=", c.ext)
 }
 
 /// Adds Common Info of a Basic element.
@@ -190,8 +189,7 @@ fn push_common(alloc: Global, out: &mut String, c: &Common) -> Result<(), Memory
     ensures { OnOk result (string_bytes out.new ≡ string_bytes out.old ++ more_parts (common_info c.now)) }
 {
     push_common_basics(alloc, out, c)?;
-    push_common_capabilities(out, c)?;
-    Ok(())
+    push_common_capabilities(out, c)
 }
 
 /// Adds what stands behind the fields of Common Info of a Basic element, and its end.
@@ -211,8 +209,7 @@ fn push_basic(alloc: Global, out: &mut String, b: &Basic) -> Result<(), Memory>
 {
     push_type(out, "basic", b.spare)?;
     push_common(alloc, out, &b.common)?;
-    push_basic_end(alloc, out, b)?;
-    Ok(())
+    push_basic_end(alloc, out, b)
 }
 
 /// Adds Common Info of a Reconfiguration element.
@@ -220,9 +217,9 @@ fn push_reconf_info(alloc: Global, out: &mut String, r: &Reconf) -> Result<(), M
     ensures { OnOk result (string_bytes out.new ≡ string_bytes out.old ++ more_parts (reconf_info r.now)) }
 {
     put_address(alloc, out, ",mld=", r.mld)?;
-    put_optional(out, ",eml=", r.eml.map(u64::from))?;
-    put_optional(out, ",caps=", r.caps.map(u64::from))?;
-    put_optional(out, ",ext=", r.ext.map(u64::from))
+    put_word(out, ",eml=", r.eml)?;
+    put_word(out, ",caps=", r.caps)?;
+    put_word(out, ",ext=", r.ext)
 }
 
 /// Adds what stands behind the fields of Common Info of a Reconfiguration element, and its end.
@@ -242,8 +239,7 @@ fn push_reconf(alloc: Global, out: &mut String, r: &Reconf) -> Result<(), Memory
 {
     push_type(out, "reconf", r.spare)?;
     push_reconf_info(alloc, out, r)?;
-    push_reconf_end(alloc, out, r)?;
-    Ok(())
+    push_reconf_end(alloc, out, r)
 }
 
 /// Adds an element of another type.

@@ -105,6 +105,20 @@ pub fn put_optional(out: &mut String, name: &str, value: Option<u64>) -> Result<
     push_optional(out, value)
 }
 
+/// Adds a number of one octet behind its name, or `-` where there is none.
+pub fn put_octet(out: &mut String, name: &str, value: Option<u8>) -> Result<(), Memory>
+    ensures { OnOk result (string_bytes out.new ≡ string_bytes out.old ++ (name.now ++ optional_text value)) }
+{
+    put_optional(out, name, value.map(u64::from))
+}
+
+/// Adds a number of two octets behind its name, or `-` where there is none.
+pub fn put_word(out: &mut String, name: &str, value: Option<u16>) -> Result<(), Memory>
+    ensures { OnOk result (string_bytes out.new ≡ string_bytes out.old ++ (name.now ++ optional_text value)) }
+{
+    put_optional(out, name, value.map(u64::from))
+}
+
 /// Adds octets behind their name.
 pub fn put_octets(alloc: Global, out: &mut String, name: &str, octets: &[u8]) -> Result<(), Memory>
     ensures { OnOk result (string_bytes out.new ≡ string_bytes out.old ++ (name.now ++ encode_lower octets.now)) }

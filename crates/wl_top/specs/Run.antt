@@ -20,7 +20,7 @@ use Rattle.wl_shown.specs.Checked.{VerdictLines}
 use Rattle.wl_top.specs.Simulated.{IsHalfIf, IsWhole}
 
 -- what a run is given, and how it leaves source and sink: the words, the bytes left in the source
--- and taken by the sink where they are told, both counts of faults, and the sealer's meaning
+-- and taken by the sink where these tell them, both counts of faults, and the sealer's meaning
 pub record Call : Type 0 where
   pub words : List (List ℕ)
   pub left : Option (List ℕ)

@@ -9,10 +9,5 @@ mod status;
 
 pub use ending::{Ending, Outcome};
 pub use laws::{one_run, read_or_too_long};
-pub use run::{Task, mld_run};
-pub use status::write_status;
-
-#[cfg(test)]
-mod tables;
-#[cfg(test)]
-mod tests;
+pub use run::{Task, mld_run, task_of};
+pub use status::{write_reason, write_status};

@@ -50,8 +50,8 @@ fn task_named(word: &String) -> Option<Task>
     None
 }
 
-/// The command that the words ask for.
-fn task_of(words: &[String]) -> Option<Task>
+/// The command that the words ask for: one word, which is a command's. None exactly where they ask for none.
+pub fn task_of(words: &[String]) -> Option<Task>
     ensures some { IfSome result (IsTask (map string_bytes words.now)) }
     ensures none { IfNone result ((task : Task) → IsTask (map string_bytes words.now) task → ⊥) }
 {

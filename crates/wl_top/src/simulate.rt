@@ -17,7 +17,7 @@ use wl_history::{Journal, every_history_is_safe};
 use wl_scene::{Scenario, SceneFault, journal_text, read_scenario, report_text};
 
 /// What came of the text of a scenario.
-#[derive(Debug, Drop)]
+#[derive(Drop)]
 pub(crate) enum Simulated {
     /// It is no scenario, for what stands at this place.
     Refused(u64),

@@ -1,4 +1,4 @@
--- The tests of a value.
+-- For private contracts alone: the tests of a value.
 use Rattle.std.specs.Prelude.{◌≡◌, ℕ, Bool, true, Option, None}
 use Rattle.wl_ttlm.specs.Fields.{Fits}
 use Rattle.wl_ttlm.specs.Ttlm.{map_width}

@@ -1,4 +1,5 @@
--- Reading the fields from left to right, up to the first that isn't whole.
+-- For private contracts alone: reading the fields from left to right, up to the first that isn't
+-- whole.
 use Rattle.std.specs.Prelude.{◌≡◌, ℕ, zero, suc, ◌-◌, ◌/◌, ◌%◌, ◌==◌, nat_lt, if◌then◌else◌, Bool, true, false, List, [], ◌∷◌, length, take, drop, Option, Some, None, Result, Ok, Err}
 use Rattle.wl_elem.specs.declared.fault.Refusal.{Refusal}
 use Rattle.wl_elem.specs.declared.why.Why.TheVariants.{Truncated, ReservedDirection}

@@ -1,4 +1,4 @@
--- What the parts of a window's calls find and leave.
+-- For private contracts alone: what the parts of a window's calls find and leave.
 use Rattle.std.specs.Prelude.{◌≡◌, ℕ, ◌<◌, ◌≤◌, false, List, [], ◌∷◌, length, Option, Some, None}
 use Rattle.std.specs.List.{insert}
 use Rattle.wl_window.specs.Reordering.{holds, placed}

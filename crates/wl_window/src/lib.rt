@@ -22,6 +22,3 @@ pub use origin::Origin;
 pub use refusal::{ArriveRefusal, MoveRefusal, OriginRefusal};
 pub use reorder::Reorder;
 pub use ups::Ups;
-
-#[cfg(test)]
-mod tests;

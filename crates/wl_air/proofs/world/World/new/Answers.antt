@@ -1,4 +1,10 @@
+use Rattle.std.proofs.Common.{◌≡◌, List, [], length, refl}
 use Rattle.wl_elem.specs.declared.lane.EndId.TheVariants.{Ap, Sta}
+use Rattle.wl_history.specs.declared.start.Start.{Start}
+use Rattle.wl_history.specs.declared.step.Step.{Step}
+use Rattle.wl_air.specs.Air.{AirState, begun}
+use Rattle.wl_air.specs.World.{IsWorld, Stands, world_of}
+use Rattle.wl_air.proofs.Begun.{begun_world, so_begun}
 use Rattle.wl_air.proofs.world.World.new.Goals as goal
 
 pub new-requires-clause-ap : goal.new-requires-clause-ap
@@ -7,5 +13,14 @@ new-requires-clause-ap c = record { some_window = c.requires.some_window Ap; win
 pub new-requires-clause-sta : goal.new-requires-clause-sta
 new-requires-clause-sta c = record { some_window = c.requires.some_window Sta; window_limit = c.requires.window_limit Sta; some_pn = c.requires.some_pn Sta; pn_limit = c.requires.pn_limit Sta }
 
+pub invariant_of-result : goal.invariant_of-result
+invariant_of-result c =
+    so_begun (λ (start : Start) (a : AirState) (steps : List Step). IsWorld start a (length steps)) c.args.start.now c.in_ok-kept.kept c.in_ok-air.air c.new-2.result c.in_ok-kept.ensures c.in_ok-air.ensures.begun c.new-2.ensures (begun_world c.args.start.now c.requires)
+
+pub returns-clause-begun : goal.returns-clause-begun
+returns-clause-begun c =
+    so_begun (λ (start : Start) (a : AirState) (steps : List Step). world_of start a steps ≡ world_of c.args.start.now (begun c.args.start.now) []) c.args.start.now c.in_ok-kept.kept c.in_ok-air.air c.new-2.result c.in_ok-kept.ensures c.in_ok-air.ensures.begun c.new-2.ensures refl
+
 pub returns-clause-stands : goal.returns-clause-stands
-returns-clause-stands c text = rw c.in_ok-air.ensures.begun rw c.in_ok-start.ensures rw c.new-steps.ensures (c.the_start_stands.ensures text c.args.start.now)
+returns-clause-stands c text =
+    so_begun (λ (start : Start) (a : AirState) (steps : List Step). Stands text (world_of start a steps)) c.args.start.now c.in_ok-kept.kept c.in_ok-air.air c.new-2.result c.in_ok-kept.ensures c.in_ok-air.ensures.begun c.new-2.ensures (c.the_start_stands.ensures text c.args.start.now)

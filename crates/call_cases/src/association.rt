@@ -2,7 +2,7 @@
 
 ghost use Rattle.std.specs.Prelude.{◌<◌, ◌^◌, length};
 
-use crate::lists::{push_list, rebuilt_list};
+use crate::lists::{push_list, rebuilt};
 use crate::octets::{octets_of, octets_text};
 use crate::words::{elements_of, fault_text, list_octets, number_of, text, yes};
 use std::alloc::Global;
@@ -102,19 +102,9 @@ fn push_link_states(out: &mut String, states: &LinkStates) -> Option<()> {
     push_list!(out, states, push_link_state)
 }
 
-/// The same list, built again.
-fn link_asks_again(alloc: Global, asks: LinkAsks) -> Option<LinkAsks> {
-    rebuilt_list!(alloc, asks, LinkAsks)
-}
-
-/// The same list, built again.
-fn link_states_again(alloc: Global, states: LinkStates) -> Option<LinkStates> {
-    rebuilt_list!(alloc, states, LinkStates)
-}
-
 /// What the calls of a request's list answer.
 fn link_asks_text(alloc: Global, asks: LinkAsks) -> Option<String> {
-    let asks = link_asks_again(alloc, asks)?;
+    let asks = rebuilt(alloc, asks)?;
     let mut out = String::new(alloc);
     push_link_asks(alloc, &mut out, &asks)?;
     Some(out)
@@ -122,7 +112,7 @@ fn link_asks_text(alloc: Global, asks: LinkAsks) -> Option<String> {
 
 /// What the calls of a response's list answer.
 fn link_states_text(alloc: Global, states: LinkStates) -> Option<String> {
-    let states = link_states_again(alloc, states)?;
+    let states = rebuilt(alloc, states)?;
     let mut out = String::new(alloc);
     push_link_states(&mut out, &states)?;
     Some(out)

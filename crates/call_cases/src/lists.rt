@@ -1,4 +1,7 @@
-//! The calls that all list types have in common.
+//! The calls of lists.
+
+use std::alloc::Global;
+use wl_elem::List;
 
 /// Adds what a list's calls answer: `len` and `is_empty`, and `get` of each item and of the index behind
 /// the last.
@@ -19,15 +22,12 @@ macro_rules! push_list {
 }
 
 /// The same list, taken apart and built again by `into_vec`, `from_vec`, `new` and `push`.
-macro_rules! rebuilt_list {
-    ($alloc:expr, $list:expr, $type:ident) => {{
-        let mut again = $type::new($alloc);
-        for item in $type::from_vec($list.into_vec()).into_vec() {
-            again.push(item).ok()?;
-        }
-        Some(again)
-    }};
+pub fn rebuilt<T: Drop>(alloc: Global, list: List<T>) -> Option<List<T>> {
+    let mut again = List::new(alloc);
+    for item in List::from_vec(list.into_vec()).into_vec() {
+        again.push(item).ok()?;
+    }
+    Some(again)
 }
 
 pub(crate) use push_list;
-pub(crate) use rebuilt_list;

@@ -3,7 +3,7 @@
 ghost use Rattle.std.specs.Prelude.{Some};
 ghost use Rattle.wl_elem.specs.Element.{HasIdentity};
 
-use crate::lists::{push_list, rebuilt_list};
+use crate::lists::{push_list, rebuilt};
 use crate::octets::{octets_of, octets_text};
 use crate::words::{extended_of, fault_text, list_octets, number_of, one_listed, text, yes};
 use std::alloc::Global;
@@ -166,19 +166,9 @@ fn push_reconfs(out: &mut String, subs: &ReconfSubs) -> Option<()> {
     push_list!(out, subs, push_reconf)
 }
 
-/// The same list, built again.
-fn basics_again(alloc: Global, subs: BasicSubs) -> Option<BasicSubs> {
-    rebuilt_list!(alloc, subs, BasicSubs)
-}
-
-/// The same list, built again.
-fn reconfs_again(alloc: Global, subs: ReconfSubs) -> Option<ReconfSubs> {
-    rebuilt_list!(alloc, subs, ReconfSubs)
-}
-
 /// What the calls of a Basic element's list answer.
 fn basic_calls(alloc: Global, subs: BasicSubs) -> Option<String> {
-    let subs = basics_again(alloc, subs)?;
+    let subs = rebuilt(alloc, subs)?;
     let mut out = String::new(alloc);
     push_basics(&mut out, &subs)?;
     Some(out)
@@ -186,7 +176,7 @@ fn basic_calls(alloc: Global, subs: BasicSubs) -> Option<String> {
 
 /// What the calls of a Reconfiguration element's list answer.
 fn reconf_calls(alloc: Global, subs: ReconfSubs) -> Option<String> {
-    let subs = reconfs_again(alloc, subs)?;
+    let subs = rebuilt(alloc, subs)?;
     let mut out = String::new(alloc);
     push_reconfs(&mut out, &subs)?;
     Some(out)

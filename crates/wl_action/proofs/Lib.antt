@@ -1,5 +1,6 @@
 pub mod Counts
 pub mod Cuts
+pub mod Knowns
 pub mod Items
 pub mod Made
 pub mod Once

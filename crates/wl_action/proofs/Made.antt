@@ -3,16 +3,18 @@ use Rattle.std.proofs.Common.{◌≡◌, ℕ, ◌+◌, ◌*◌, ◌/◌, ◌%◌
 use Rattle.std.proofs.lemmas.Bool.{leb-true}
 use Rattle.std.proofs.lemmas.List.{append-nil, drop-drop}
 use Rattle.wl_elem.specs.Element.{ElementValue}
-use Rattle.wl_ttlm.specs.Fields.{field}
-use Rattle.wl_ttlm.specs.Ttlm.{has_bit}
+use Rattle.wl_elem.specs.Fields.{field, word_at}
+use Rattle.wl_elem.proofs.Octets.{IsOctets, IsOctets-drop}
+use Rattle.wl_elem.proofs.Numbers.{octet_below}
+use Rattle.wl_elem.specs.Bits.{has_bit}
 use Rattle.wl_action.specs.declared.action.Action.{Action}
 use Rattle.wl_action.specs.declared.action.Action.TheVariants.{MapAsk, MapReply, MapTeardown, Epcs, ReconfAsk, AddBaAsk, AddBaReply, DelBa}
 use Rattle.wl_action.specs.declared.code.Code.{Code}
 use Rattle.wl_action.specs.declared.code.Code.TheVariants as kinds
 use Rattle.wl_action.specs.Action.{front, statuses, ActionOf, has_elements}
-use Rattle.wl_action.specs.Reading.{word_at, some_if, statuses_in, links_width, update_width, made, IsListed, IsMade}
+use Rattle.wl_action.specs.Reading.{some_if, statuses_in, links_width, update_width, made, IsListed, IsMade}
 use Rattle.wl_action.proofs.Table.{IsCoded, IsWhole}
-use Rattle.wl_action.proofs.Words.{IsOctets, IsOctets-drop, octet_below, word_below, octet_here, word_here, word_if_here, octet_if_here, some_if-there, Fits-some_if, statuses_here}
+use Rattle.wl_action.proofs.Words.{word_fits, octet_here, word_here, word_if_here, octet_if_here, some_if-there, Fits-some_if, statuses_here}
 use Rattle.wl_action.proofs.Cuts.{total_entries}
 use Rattle.wl_action.proofs.Parts.{one_or_two, one_link, all_of_type}
 
@@ -47,7 +49,7 @@ from_map_ask rest list is le l =
 from_map_reply : (rest : List ℕ) (list : List ElementValue) → IsOctets rest → 3 ≤ length rest → IsListed kinds.MapReply (drop 3 rest) list → ActionOf (MapReply (get_or rest 0 0) (word_at rest 1) list) (37 ∷ 1 ∷ rest)
 from_map_reply rest list is le l =
     record {
-      is_value = (octet_below rest 0 is, word_below rest 1 is, leb-true _ _ l.numbers, l.read);
+      is_value = (octet_below rest 0 is, word_fits rest 1 is, leb-true _ _ l.numbers, l.read);
       elems = drop 3 rest;
       list = l.elems;
       text = cells 37 1 _ _ (token_and rest (omega arith) ∙ ap (λ (x : List ℕ). get_or rest 0 0 ∷ x) (word_and rest 1 3 refl is le));
@@ -60,11 +62,11 @@ from_reconf_ask rest list is le l =
 
 from_add_ba_ask : (rest : List ℕ) (list : List ElementValue) → IsOctets rest → 7 ≤ length rest → IsListed kinds.AddBaAsk (drop 7 rest) list → ActionOf (AddBaAsk (get_or rest 0 0) (word_at rest 1) (word_at rest 3) (word_at rest 5) list) (3 ∷ 0 ∷ rest)
 from_add_ba_ask rest list is le l =
-    record { is_value = (octet_below rest 0 is, word_below rest 1 is, word_below rest 3 is, word_below rest 5 is); elems = drop 7 rest; list = l.elems; text = cells 3 0 _ _ (three_words rest is le) }
+    record { is_value = (octet_below rest 0 is, word_fits rest 1 is, word_fits rest 3 is, word_fits rest 5 is); elems = drop 7 rest; list = l.elems; text = cells 3 0 _ _ (three_words rest is le) }
 
 from_add_ba_reply : (rest : List ℕ) (list : List ElementValue) → IsOctets rest → 7 ≤ length rest → IsListed kinds.AddBaReply (drop 7 rest) list → ActionOf (AddBaReply (get_or rest 0 0) (word_at rest 1) (word_at rest 3) (word_at rest 5) list) (3 ∷ 1 ∷ rest)
 from_add_ba_reply rest list is le l =
-    record { is_value = (octet_below rest 0 is, word_below rest 1 is, word_below rest 3 is, word_below rest 5 is); elems = drop 7 rest; list = l.elems; text = cells 3 1 _ _ (three_words rest is le) }
+    record { is_value = (octet_below rest 0 is, word_fits rest 1 is, word_fits rest 3 is, word_fits rest 5 is); elems = drop 7 rest; list = l.elems; text = cells 3 1 _ _ (three_words rest is le) }
 
 from_map_teardown : (rest : List ℕ) → ActionOf (MapTeardown rest) (37 ∷ 2 ∷ rest)
 from_map_teardown rest = record { is_value = tt; elems = []; list = refl; text = sym (append-nil (37 ∷ 2 ∷ rest)) }
@@ -74,7 +76,7 @@ from_epcs action rest low high = record { is_value = (low, high); elems = []; li
 
 from_del_ba : (rest : List ℕ) → IsOctets rest → 4 ≤ length rest → ActionOf (DelBa (word_at rest 0) (word_at rest 2) (drop 4 rest)) (3 ∷ 2 ∷ rest)
 from_del_ba rest is le =
-    record { is_value = (word_below rest 0 is, word_below rest 2 is); elems = []; list = refl; text = cells 3 2 _ _ (two_words rest is le) ∙ sym (append-nil (front (DelBa (word_at rest 0) (word_at rest 2) (drop 4 rest)))) }
+    record { is_value = (word_fits rest 0 is, word_fits rest 2 is); elems = []; list = refl; text = cells 3 2 _ _ (two_words rest is le) ∙ sym (append-nil (front (DelBa (word_at rest 0) (word_at rest 2) (drop 4 rest)))) }
 
 from_eml : (rest : List ℕ) → IsOctets rest → IsWhole kinds.Eml rest → ActionOf (made kinds.Eml 6 rest []) (37 ∷ 6 ∷ rest)
 from_eml rest is whole =
@@ -97,7 +99,7 @@ from_eml rest is whole =
         token_fits = octet_below rest 0 is;
         control_fits = octet_below rest 1 is;
         emlsr = whole.no_emlmr;
-        links_fit = Fits-some_if there 2 (word_at rest 2) (word_below rest 2 is);
+        links_fit = Fits-some_if there 2 (word_at rest 2) (word_fits rest 2 is);
         update_fits = Fits-some_if there' 1 (get_or rest at 0) (let small = octet_below rest at is in omega (arith, small));
         links_there = some_if-there there (word_at rest 2);
         update_there = some_if-there there' (get_or rest at 0);

@@ -2,6 +2,8 @@
 use Rattle.std.proofs.Common.{◌≡◌, ℕ, suc, ◌+◌, Bool, true, false, List, [], ◌∷◌, drop, Option, Some, None, Result, Ok, Err, refl, sym, ap, subst, ◌∙◌, inl, inr}
 use Rattle.std.specs.Prelude.{is_some, not, IsTrue}
 use Rattle.std.specs.List.{AllByRecursion}
+use Rattle.wl_elem.specs.Answers.{in_element, moved}
+use Rattle.wl_elem.specs.Fields.{total}
 use Rattle.wl_elem.specs.declared.fault.Refusal.{Refusal}
 use Rattle.wl_elem.specs.Element.{ElementValue}
 use Rattle.wl_elem.specs.ElementList as lists
@@ -12,7 +14,7 @@ use Rattle.wl_mle.specs.MultiLink as links
 use Rattle.wl_action.specs.declared.action.Action.{Action}
 use Rattle.wl_action.specs.declared.code.Code.{Code}
 use Rattle.wl_action.specs.declared.code.Code.TheVariants as kinds
-use Rattle.wl_action.specs.Action.{IsRead, IsItemRefused, at_element, FirstRefused, moved, right_numbers, ListRefused, RefusedList, widths, total}
+use Rattle.wl_action.specs.Action.{IsRead, IsItemRefused, FirstRefused, right_numbers, ListRefused, RefusedList, widths}
 use Rattle.wl_action.specs.Reading.{made, IsListed, FirstAs, IsMade}
 use Rattle.wl_action.specs.Writing.{AreFit}
 
@@ -91,7 +93,7 @@ not_both once _ e r p q = absurd q
 
 one_first : Once → (code : Code) (i : ℕ) (list : List ElementValue) (r s : Refusal) → FirstRefused code i list r → FirstRefused code i list s → r ≡ s
 one_first once code i [] r s p q = absurd p
-one_first once code i (e ∷ list) r s (inl (a, p, is)) (inl (b, q, also)) = is ∙ ap (at_element i) (one_item once code e a b p q) ∙ sym also
+one_first once code i (e ∷ list) r s (inl (a, p, is)) (inl (b, q, also)) = is ∙ ap (in_element i) (one_item once code e a b p q) ∙ sym also
 one_first once code i (e ∷ list) r s (inl (a, p, is)) (inr (read, q)) = absurd (not_both once code e a read p)
 one_first once code i (e ∷ list) r s (inr (read, p)) (inl (b, q, also)) = absurd (not_both once code e b read q)
 one_first once code i (e ∷ list) r s (inr (read, p)) (inr (other, q)) = one_first once code (suc i) list r s p q

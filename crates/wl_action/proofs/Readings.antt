@@ -17,7 +17,7 @@ use Rattle.wl_action.proofs.Once.{Once, Behind, one_behind}
 use Rattle.wl_action.proofs.Table.{is_coded, free_whole}
 use Rattle.wl_action.proofs.Made.{is_read}
 use Rattle.wl_action.proofs.Spelled.{is_of}
-use Rattle.wl_action.proofs.Words.{IsOctets}
+use Rattle.wl_elem.proofs.Octets.{IsOctets}
 
 -- ---- the head of a body
 

@@ -4,8 +4,8 @@ use Rattle.std.specs.List.{AllByRecursion}
 use Rattle.std.proofs.lemmas.Bool.{le-leb}
 use Rattle.std.proofs.lemmas.List.{append-nil, length-append}
 use Rattle.wl_elem.specs.Element.{ElementValue}
-use Rattle.wl_ttlm.specs.Fields.{field}
-use Rattle.wl_ttlm.specs.Ttlm.{has_bit}
+use Rattle.wl_elem.specs.Fields.{field}
+use Rattle.wl_elem.specs.Bits.{has_bit}
 use Rattle.wl_action.specs.declared.action.Action.{Action}
 use Rattle.wl_action.specs.declared.action.Action.TheVariants.{MapAsk, MapReply, MapTeardown, Epcs, Eml, ReconfAsk, ReconfReply, AddBaAsk, AddBaReply, DelBa}
 use Rattle.wl_action.specs.declared.code.Code.{Code}

@@ -2,13 +2,14 @@
 use Rattle.std.proofs.Common.{◌≡◌, ◌≢◌, ℕ, zero, suc, ◌+◌, ◌*◌, ◌≤◌, Bool, true, false, cond, eqb, leb, List, ◌++◌, length, get_or, Option, Some, None, refl, subst, arith}
 use Rattle.std.proofs.lemmas.Bool.{cond_both, eqb-true, eqb-false, leb-true}
 use Rattle.wl_elem.specs.declared.fault.Refusal.{Refusal}
+use Rattle.wl_elem.proofs.Numbers.{all_whole, room_for}
 use Rattle.wl_elem.specs.declared.why.Why.TheVariants.{EmlmrLeftOut}
 use Rattle.wl_elem.specs.Answers.{refusal_at}
-use Rattle.wl_ttlm.specs.Fields.{first_cut}
+use Rattle.wl_elem.specs.Fields.{first_cut, total}
 use Rattle.wl_action.specs.declared.code.Code.{Code}
 use Rattle.wl_action.specs.declared.code.Code.TheVariants as kinds
-use Rattle.wl_action.specs.Action.{protected_code, block_ack_code, code_of, widths, more_widths, is_emlmr, cut_fault, field_fault, total}
-use Rattle.wl_action.proofs.Cuts.{all_whole, room_for, total_entries}
+use Rattle.wl_action.specs.Action.{protected_code, block_ack_code, code_of, widths, more_widths, is_emlmr, cut_fault, field_fault}
+use Rattle.wl_action.proofs.Cuts.{total_entries}
 
 -- ---- the two octets of a kind
 

@@ -1,12 +1,10 @@
 -- All octets are read.
-use Rattle.std.proofs.Common.{◌≡◌, ℕ, suc, Bool, true, false, List, [], ◌∷◌, ◌++◌, drop, Option, Some, None, Result, Ok, Err, refl, subst, inl, inr}
+use Rattle.std.proofs.Common.{◌≡◌, ℕ, suc, Bool, true, false, List, [], ◌∷◌, drop, Option, Some, None, Result, Ok, Err, refl, subst, inl, inr}
 use Rattle.std.specs.List.{AllByRecursion}
 use Rattle.wl_elem.specs.declared.fault.Refusal.{Refusal}
-use Rattle.wl_elem.specs.declared.kind.ListKind.{ListKind}
-use Rattle.wl_elem.specs.declared.kind.ListKind.TheVariants.{Elements}
-use Rattle.wl_elem.specs.Answers.{refusal_at}
-use Rattle.wl_elem.specs.Cutting.{fragment_id, joined, piece, fragments, pieces}
-use Rattle.wl_elem.specs.Element.{ElementValue, information_of}
+use Rattle.wl_elem.specs.Fields.{total}
+use Rattle.wl_elem.specs.Answers.{refusal_at, in_element, moved}
+use Rattle.wl_elem.specs.Element.{ElementValue}
 use Rattle.wl_elem.specs.ElementList as lists
 use Rattle.wl_ttlm.specs.declared.ttlm.Ttlm.{Ttlm}
 use Rattle.wl_ttlm.specs.Ttlm as maps
@@ -14,112 +12,66 @@ use Rattle.wl_mle.specs.declared.multi_link.MultiLink.{MultiLink}
 use Rattle.wl_mle.specs.MultiLink as links
 use Rattle.wl_action.specs.declared.action.Action.{Action}
 use Rattle.wl_action.specs.declared.code.Code.{Code}
-use Rattle.wl_action.specs.declared.code.Code.TheVariants as kinds
+use Rattle.wl_elem.specs.declared.known.Known.{Known}
+use Rattle.wl_elem.specs.declared.known.Known.TheVariants as knowns
 use Rattle.wl_elem.specs.Identity.{is_mapping, is_multi_link}
-use Rattle.wl_action.specs.Action.{at_element, moved, wrong_number, right_numbers, head_fault, widths, total, has_elements, ReadAs}
-use Rattle.wl_action.specs.Reading.{made, FirstAs, ItemAs, MappingAs, MultiLinkAs}
+use Rattle.wl_action.specs.Action.{decodes, wrong_number, right_numbers, head_fault, widths, has_elements, ReadAs}
+use Rattle.wl_action.specs.Reading.{made, FirstAs, KnownAs}
 use Rattle.wl_action.proofs.Once.{Behind}
 use Rattle.wl_action.proofs.Readings.{HasHead, has_head, fault_read, behind_read}
-use Rattle.wl_action.proofs.Words.{IsOctets, IsOctets-drop}
+use Rattle.wl_elem.proofs.Octets.{IsOctets, IsOctets-drop}
 
 -- the laws of the crates below
 pub record Total : Type 0 where
+  pub bodies : (list : List ElementValue) (octets : List ℕ) → IsOctets octets → lists.Elems list octets → AllByRecursion (λ e. IsOctets e.body) list
   pub lists : (octets : List ℕ) → IsOctets octets → (reading : Result (List ElementValue) Refusal) × lists.ReadAs octets reading
   pub maps : (body : List ℕ) → IsOctets body → (reading : Result Ttlm Refusal) × maps.ReadAs body reading
   pub links : (body : List ℕ) → IsOctets body → (reading : Result MultiLink Refusal) × links.ReadAs body reading
 
 -- ---- the octets of elements' bodies
 
-parts_of : (a b : List ℕ) → IsOctets (a ++ b) → IsOctets a × IsOctets b
-parts_of [] b is = (tt, is)
-parts_of (x ∷ a) b is = let p = parts_of a b is.1 in ((is.0, p.0), p.1)
-
-both_parts : (a b : List ℕ) → IsOctets a → IsOctets b → IsOctets (a ++ b)
-both_parts [] b is also = also
-both_parts (x ∷ a) b is also = (is.0, both_parts a b is.1 also)
-
-in_fragments : (kind : ListKind) (parts : List (List ℕ)) → IsOctets (fragments kind parts) → IsOctets (joined parts)
-in_fragments kind [] is = tt
-in_fragments kind (part ∷ parts) is =
-    let p = parts_of (piece (fragment_id kind) part) (fragments kind parts) is in
-    both_parts part (joined parts) p.0.1.1 (in_fragments kind parts p.1)
-
-in_pieces : (kind : ListKind) (id : ℕ) (parts : List (List ℕ)) → IsOctets (pieces kind id parts) → IsOctets (joined parts)
-in_pieces kind id [] is = tt
-in_pieces kind id (part ∷ parts) is =
-    let p = parts_of (piece id part) (fragments kind parts) is in
-    both_parts part (joined parts) p.0.1.1 (in_fragments kind parts p.1)
-
-in_information : (ext : Option ℕ) (body : List ℕ) → IsOctets (information_of ext body) → IsOctets body
-in_information (Some x) body is = is.1
-in_information None body is = is
-
-in_element : (e : ElementValue) (octets : List ℕ) → lists.Spells e octets → IsOctets octets → IsOctets e.body
-in_element e octets spells is =
-    let w = spells.written in
-    in_information e.ext e.body (subst IsOctets w.whole (in_pieces Elements e.id w.parts (subst IsOctets w.written is)))
-
 abbrev AreOctets : List ElementValue → Type 0
 AreOctets list = AllByRecursion (λ e. IsOctets e.body) list
 
-in_elements : (list : List ElementValue) (octets : List ℕ) → lists.Elems list octets → IsOctets octets → AreOctets list
-in_elements [] octets of is = tt
-in_elements (e ∷ list) octets (front, rest, split, spells, more) is =
-    let p = parts_of front rest (subst IsOctets split is) in
-    (in_element e front spells p.0, in_elements list rest more p.1)
-
 -- ---- one element
 
-mapping_read : (e : ElementValue) → is_mapping e ≡ true → ((reading : Result Ttlm Refusal) × maps.ReadAs e.body reading) → (x : Option Refusal) × MappingAs e x
+abbrev Item : Option Known → ElementValue → Type 0
+Item decoded e = (x : Option Refusal) × KnownAs decoded e x
+
+mapping_read : (e : ElementValue) → is_mapping e ≡ true → ((reading : Result Ttlm Refusal) × maps.ReadAs e.body reading) → Item (Some knowns.TidToLinkMapping) e
 mapping_read e there (Ok t, of) = (None, λ _. (t, of))
 mapping_read e there (Err r, refused) = (Some r, (there, refused))
 
-mapping_of : Total → (e : ElementValue) (there : Bool) → is_mapping e ≡ there → IsOctets e.body → (x : Option Refusal) × MappingAs e x
+mapping_of : Total → (e : ElementValue) (there : Bool) → is_mapping e ≡ there → IsOctets e.body → Item (Some knowns.TidToLinkMapping) e
 mapping_of all e false other is = (None, λ h. absurd (cc (other, h)))
 mapping_of all e true there is = mapping_read e there (all.maps e.body is)
 
-link_read : (e : ElementValue) → is_multi_link e ≡ true → ((reading : Result MultiLink Refusal) × links.ReadAs e.body reading) → (x : Option Refusal) × MultiLinkAs e x
+link_read : (e : ElementValue) → is_multi_link e ≡ true → ((reading : Result MultiLink Refusal) × links.ReadAs e.body reading) → Item (Some knowns.MultiLink) e
 link_read e there (Ok value, of) = (None, λ _. (value, of))
 link_read e there (Err r, refused) = (Some r, (there, refused))
 
-link_of : Total → (e : ElementValue) (there : Bool) → is_multi_link e ≡ there → IsOctets e.body → (x : Option Refusal) × MultiLinkAs e x
+link_of : Total → (e : ElementValue) (there : Bool) → is_multi_link e ≡ there → IsOctets e.body → Item (Some knowns.MultiLink) e
 link_of all e false other is = (None, λ h. absurd (cc (other, h)))
 link_of all e true there is = link_read e there (all.links e.body is)
 
-abbrev Item : Code → ElementValue → Type 0
-Item code e = (x : Option Refusal) × ItemAs code e x
-
-as_map_ask : (e : ElementValue) → ((x : Option Refusal) × MappingAs e x) → Item kinds.MapAsk e
-as_map_ask e (None, is) = (None, is)
-as_map_ask e (Some r, is) = (Some r, is)
-
-as_map_reply : (e : ElementValue) → ((x : Option Refusal) × MappingAs e x) → Item kinds.MapReply e
-as_map_reply e (None, is) = (None, is)
-as_map_reply e (Some r, is) = (Some r, is)
-
-as_reconf_ask : (e : ElementValue) → ((x : Option Refusal) × MultiLinkAs e x) → Item kinds.ReconfAsk e
-as_reconf_ask e (None, is) = (None, is)
-as_reconf_ask e (Some r, is) = (Some r, is)
-
-item_of : Total → (code : Code) (e : ElementValue) → IsOctets e.body → Item code e
-item_of all kinds.MapAsk e is = as_map_ask e (mapping_of all e (is_mapping e) refl is)
-item_of all kinds.MapReply e is = as_map_reply e (mapping_of all e (is_mapping e) refl is)
-item_of all kinds.ReconfAsk e is = as_reconf_ask e (link_of all e (is_multi_link e) refl is)
-item_of all _ e is = (None, tt)
+item_of : Total → (decoded : Option Known) (e : ElementValue) → IsOctets e.body → Item decoded e
+item_of all (Some knowns.TidToLinkMapping) e is = mapping_of all e (is_mapping e) refl is
+item_of all (Some knowns.MultiLink) e is = link_of all e (is_multi_link e) refl is
+item_of all None e is = (None, tt)
 
 -- ---- the first that isn't decoded, or none
 
 abbrev First : Code → ℕ → List ElementValue → Type 0
 First code i list = (x : Option Refusal) × FirstAs code i list x
 
-first_with : (code : Code) (i : ℕ) (e : ElementValue) (list : List ElementValue) → Item code e → First code (suc i) list → First code i (e ∷ list)
-first_with code i e list (Some r, refused) others = (Some (at_element i r), inl (r, refused, refl))
+first_with : (code : Code) (i : ℕ) (e : ElementValue) (list : List ElementValue) → Item (decodes code) e → First code (suc i) list → First code i (e ∷ list)
+first_with code i e list (Some r, refused) others = (Some (in_element i r), inl (r, refused, refl))
 first_with code i e list (None, read) (Some r, refused) = (Some r, inr (read, refused))
 first_with code i e list (None, read) (None, all) = (None, (read, all))
 
 first_of_list : Total → (code : Code) (i : ℕ) (list : List ElementValue) → AreOctets list → First code i list
 first_of_list all code i [] are = (None, tt)
-first_of_list all code i (e ∷ list) are = first_with code i e list (item_of all code e are.0) (first_of_list all code (suc i) list are.1)
+first_of_list all code i (e ∷ list) are = first_with code i e list (item_of all (decodes code) e are.0) (first_of_list all code (suc i) list are.1)
 
 -- ---- what stands behind the two octets
 
@@ -135,7 +87,7 @@ by_numbers all code action rest list false e of are = (Err (refusal_at _ (wrong_
 by_numbers all code action rest list true e of are = by_first code action rest list of e (first_of_list all code 0 list are)
 
 by_list : Total → (code : Code) (action : ℕ) (rest : List ℕ) → IsOctets (drop (total (widths code)) rest) → ((reading : Result (List ElementValue) Refusal) × lists.ReadAs (drop (total (widths code)) rest) reading) → Read true code action rest
-by_list all code action rest is (Ok list, of) = by_numbers all code action rest list (right_numbers code list) refl of (in_elements list _ of is)
+by_list all code action rest is (Ok list, of) = by_numbers all code action rest list (right_numbers code list) refl of (all.bodies list _ is of)
 by_list all code action rest is (Err r, refused) = (Err (moved _ r), inl (r, refused, refl))
 
 by_kind : Total → (elements : Bool) (code : Code) (action : ℕ) (rest : List ℕ) → IsOctets rest → Read elements code action rest

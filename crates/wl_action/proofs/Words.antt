@@ -5,30 +5,15 @@ use Rattle.std.specs.List.{AllByRecursion}
 use Rattle.std.proofs.lemmas.List.{append-nil, length-append, drop-drop, take_more}
 use Rattle.std.proofs.Math.Seq.{drop-cons}
 use Rattle.wl_elem.specs.Octets.{octets_of}
-use Rattle.wl_ttlm.specs.Fields.{field, Fits, width_if}
+use Rattle.wl_elem.specs.Fields.{field, Fits, width_if, word_at}
+use Rattle.wl_elem.proofs.Octets.{IsOctets, IsOctets-drop}
+use Rattle.wl_elem.proofs.Numbers.{octet_below, word_below}
 use Rattle.wl_action.specs.declared.statuses.LinkStatus.{LinkStatus}
 use Rattle.wl_action.specs.Action.{statuses, IsWord, IsLinkStatus}
-use Rattle.wl_action.specs.Reading.{word_at, some_if, statuses_in}
+use Rattle.wl_action.specs.Reading.{some_if, statuses_in}
 
-abbrev pub IsOctets : List ℕ → Type 0
-IsOctets octets = AllByRecursion (λ octet. octet < 256) octets
-
-pub octet_below : (octets : List ℕ) (i : ℕ) → IsOctets octets → get_or octets i 0 < 256
-octet_below [] i is = omega arith
-octet_below (octet ∷ octets) zero is = is.0
-octet_below (octet ∷ octets) (suc i) is = octet_below octets i is.1
-
-pub IsOctets-drop : (n : ℕ) (octets : List ℕ) → IsOctets octets → IsOctets (drop n octets)
-IsOctets-drop zero octets is = is
-IsOctets-drop (suc n) [] is = tt
-IsOctets-drop (suc n) (octet ∷ octets) is = IsOctets-drop n octets is.1
-
-pub word_below : (octets : List ℕ) (i : ℕ) → IsOctets octets → IsWord (word_at octets i)
-word_below octets i is =
-    let low = octet_below octets i is in
-    let high = octet_below octets (i + 1) is in
-    let most : 256 ^ 2 ≡ 65536 = refl in
-    omega (arith, low, high, most)
+pub word_fits : (octets : List ℕ) (i : ℕ) → IsOctets octets → IsWord (word_at octets i)
+word_fits octets i is = let most : 256 ^ 2 ≡ 65536 = refl in omega (arith, word_below octets i is, most)
 
 -- the octets of two octets' number
 word_text : (low high : ℕ) → low < 256 → high < 256 → octets_of 2 (low + 256 * high) ≡ low ∷ high ∷ []
@@ -95,7 +80,7 @@ statuses_here (suc count) octets is le =
     let behind : drop (3 * count) after ≡ drop (3 * suc count) octets = drop-drop (3 * count) 3 octets ∙ ap (λ (n : ℕ). drop n octets) next in
     record {
       counted = ap suc more.counted;
-      fit = (record { link = octet_below octets 0 is; status = word_below octets 1 is }, more.fit);
+      fit = (record { link = octet_below octets 0 is; status = word_fits octets 1 is }, more.fit);
       text = parts ∙ ap (λ (x : List ℕ). link ∷ (octets_of 2 status ++ x)) (more.text ∙ ap (λ (x : List ℕ). statuses (statuses_in count after) ++ x) behind);
     }
 

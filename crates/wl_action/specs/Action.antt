@@ -21,13 +21,14 @@ use Rattle.std.specs.List.{AllByRecursion}
 use Rattle.wl_elem.specs.declared.why.Why.{Why}
 use Rattle.wl_elem.specs.declared.why.Why.TheVariants.{Truncated, UnknownCategory, UnknownAction, EmlmrLeftOut, NoMapping, NoMultiLink}
 use Rattle.wl_elem.specs.declared.fault.Refusal.{Refusal}
-use Rattle.wl_elem.specs.Answers.{refusal_at}
-use Rattle.wl_elem.specs.Element.{ElementValue}
+use Rattle.wl_elem.specs.Answers.{refusal_at, in_element, moved}
+use Rattle.wl_elem.specs.Element.{ElementValue, body_limit}
 use Rattle.wl_elem.specs.ElementList.{Elems, ElemsRefused}
 use Rattle.wl_elem.specs.Octets.{octets_of}
 use Rattle.wl_ttlm.specs.declared.ttlm.Ttlm.{Ttlm}
-use Rattle.wl_ttlm.specs.Fields.{field, Fits, first_cut, width_if}
-use Rattle.wl_ttlm.specs.Ttlm.{has_bit, TtlmOf, TtlmRefused}
+use Rattle.wl_elem.specs.Bits.{has_bit}
+use Rattle.wl_elem.specs.Fields.{field, Fits, first_cut, width_if, total}
+use Rattle.wl_ttlm.specs.Ttlm.{TtlmOf, TtlmRefused}
 use Rattle.wl_mle.specs.declared.multi_link.MultiLink.{MultiLink}
 use Rattle.wl_mle.specs.declared.multi_link.MultiLink.TheVariants.{Reconfiguration}
 use Rattle.wl_mle.specs.declared.reconf.Reconf.{Reconf}
@@ -38,6 +39,8 @@ use Rattle.wl_action.specs.declared.action.Action.TheVariants.{MapAsk, MapReply,
 use Rattle.wl_action.specs.declared.code.Code.{Code}
 use Rattle.wl_action.specs.declared.code.Code.TheVariants as kinds
 use Rattle.wl_action.specs.declared.statuses.LinkStatus.{LinkStatus}
+use Rattle.wl_elem.specs.declared.known.Known.{Known}
+use Rattle.wl_elem.specs.declared.known.Known.TheVariants.{TidToLinkMapping, MultiLink as MultiLinks}
 use Rattle.wl_elem.specs.Identity.{is_mapping, is_multi_link}
 
 -- ---- values
@@ -124,7 +127,7 @@ pub record ActionOf (value : Action) (body : List ℕ) : Type 0 where
 
 -- some body that is handed in as one is this value's
 abbrev pub IsWritable : Action → Type 0
-IsWritable value = (body : List ℕ) × (length body ≤ 16777216) × ActionOf value body
+IsWritable value = (body : List ℕ) × (length body ≤ body_limit) × ActionOf value body
 
 -- ---- the table of kinds
 
@@ -232,33 +235,39 @@ abbrev pub wrong_number : Code → Why
 wrong_number kinds.ReconfAsk = NoMultiLink
 wrong_number _ = NoMapping
 
+-- which elements behind the fields of such a code are decoded
+abbrev pub decodes : Code → Option Known
+decodes kinds.MapAsk = Some TidToLinkMapping
+decodes kinds.MapReply = Some TidToLinkMapping
+decodes kinds.ReconfAsk = Some MultiLinks
+decodes _ = None
+
+-- where the element is one of those that are decoded, it has a value
+abbrev pub HasValue : Option Known → ElementValue → Type 0
+HasValue (Some TidToLinkMapping) e = HasMapping e
+HasValue (Some MultiLinks) e = HasMultiLink e
+HasValue None e = Unit {0}
+
+-- it is one of them, and is refused
+abbrev pub HasNone : Option Known → ElementValue → Refusal → Type 0
+HasNone (Some TidToLinkMapping) e refusal = (is_mapping e ≡ true) × TtlmRefused e.body refusal
+HasNone (Some MultiLinks) e refusal = (is_multi_link e ≡ true) × MlRefused e.body refusal
+HasNone None e refusal = ⊥
+
 -- an element that is to be decoded behind the fields of such a code has a value
 abbrev pub IsRead : Code → ElementValue → Type 0
-IsRead kinds.MapAsk e = HasMapping e
-IsRead kinds.MapReply e = HasMapping e
-IsRead kinds.ReconfAsk e = HasMultiLink e
-IsRead _ e = Unit {0}
+IsRead code e = HasValue (decodes code) e
 
 -- it is to be decoded, and is refused
 abbrev pub IsItemRefused : Code → ElementValue → Refusal → Type 0
-IsItemRefused kinds.MapAsk e refusal = (is_mapping e ≡ true) × TtlmRefused e.body refusal
-IsItemRefused kinds.MapReply e refusal = (is_mapping e ≡ true) × TtlmRefused e.body refusal
-IsItemRefused kinds.ReconfAsk e refusal = (is_multi_link e ≡ true) × MlRefused e.body refusal
-IsItemRefused _ e refusal = ⊥
-
-abbrev pub at_element : ℕ → Refusal → Refusal
-at_element i refusal = record refusal { element = Some i }
+IsItemRefused code e refusal = HasNone (decodes code) e refusal
 
 -- the first that isn't decoded, counted from `i`
 abbrev pub FirstRefused : Code → ℕ → List ElementValue → Refusal → Type 0
 FirstRefused code i [] refusal = ⊥
 FirstRefused code i (e ∷ list) refusal =
-    ((inner : Refusal) × IsItemRefused code e inner × (refusal ≡ at_element i inner))
+    ((inner : Refusal) × IsItemRefused code e inner × (refusal ≡ in_element i inner))
     ⊎ (IsRead code e × FirstRefused code (suc i) list refusal)
-
--- the place is counted from so far before
-abbrev pub moved : ℕ → Refusal → Refusal
-moved offset refusal = record refusal { place = refusal.place + offset }
 
 -- The octets from this place on are no element list, or one with a wrong number of elements, or one
 -- with an element that is to be decoded and isn't.
@@ -267,10 +276,6 @@ ListRefused code octets offset refusal =
     ((inner : Refusal) × ElemsRefused octets inner × (refusal ≡ moved offset inner))
     ⊎ ((list : List ElementValue) × Elems list octets × (right_numbers code list ≡ false) × (refusal ≡ refusal_at offset (wrong_number code)))
     ⊎ ((list : List ElementValue) × Elems list octets × (right_numbers code list ≡ true) × FirstRefused code 0 list refusal)
-
-abbrev pub total : List ℕ → ℕ
-total [] = 0
-total (width ∷ widths) = width + total widths
 
 -- the octets behind the fields of a code with elements are refused
 abbrev pub RefusedList : Bool → Code → List ℕ → Refusal → Type 0

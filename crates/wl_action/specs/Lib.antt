@@ -1,3 +1,4 @@
+pub mod Known
 pub mod Action
 pub mod Reading
 pub mod Writing

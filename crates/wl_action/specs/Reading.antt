@@ -3,22 +3,17 @@
 use Rattle.std.specs.Prelude.{◌≡◌, ℕ, zero, suc, ◌+◌, ◌*◌, Bool, true, false, List, [], ◌∷◌, drop, slice_index, Option, Some, None, Result, Ok, Err}
 use Rattle.std.specs.List.{AllByRecursion}
 use Rattle.wl_elem.specs.declared.fault.Refusal.{Refusal}
+use Rattle.wl_elem.specs.declared.known.Known.{Known}
 use Rattle.wl_elem.specs.Element.{ElementValue}
 use Rattle.wl_elem.specs.ElementList.{Elems}
-use Rattle.wl_ttlm.specs.Fields.{width_if}
-use Rattle.wl_ttlm.specs.Ttlm.{has_bit, TtlmRefused}
-use Rattle.wl_mle.specs.MultiLink.{MlRefused}
+use Rattle.wl_elem.specs.Bits.{has_bit}
+use Rattle.wl_elem.specs.Fields.{width_if, word_at, total}
 use Rattle.wl_action.specs.declared.action.Action.{Action}
 use Rattle.wl_action.specs.declared.action.Action.TheVariants.{MapAsk, MapReply, MapTeardown, Epcs, Eml, ReconfAsk, ReconfReply, AddBaAsk, AddBaReply, DelBa}
 use Rattle.wl_action.specs.declared.code.Code.{Code}
 use Rattle.wl_action.specs.declared.code.Code.TheVariants as kinds
 use Rattle.wl_action.specs.declared.statuses.LinkStatus.{LinkStatus}
-use Rattle.wl_elem.specs.Identity.{is_mapping, is_multi_link}
-use Rattle.wl_action.specs.Action.{is_known, code_of, widths, has_elements, field_fault, right_numbers, HasMapping, HasMultiLink, IsRead, IsItemRefused, FirstRefused, ListRefused, total, RefusedList}
-
--- the number of two octets at an index
-abbrev pub word_at : List ℕ → ℕ → ℕ
-word_at octets i = slice_index octets i + 256 * slice_index octets (i + 1)
+use Rattle.wl_action.specs.Action.{is_known, code_of, widths, has_elements, field_fault, right_numbers, decodes, HasValue, HasNone, IsRead, FirstRefused, ListRefused, RefusedList}
 
 -- a number, where it is there
 abbrev pub some_if : Bool → ℕ → Option ℕ
@@ -85,16 +80,10 @@ pub record IsHead (body : List ℕ) (code : Code) (action : ℕ) (rest : List �
   pub coded : code_of category action ≡ Some code
   pub free : field_fault code rest ≡ None
 
--- what is answered of one element
-
-abbrev pub MappingAs : ElementValue → Option Refusal → Type 0
-MappingAs e None = HasMapping e
-MappingAs e (Some refusal) = (is_mapping e ≡ true) × TtlmRefused e.body refusal
-
-abbrev pub MultiLinkAs : ElementValue → Option Refusal → Type 0
-MultiLinkAs e None = HasMultiLink e
-MultiLinkAs e (Some refusal) = (is_multi_link e ≡ true) × MlRefused e.body refusal
+-- what is answered of one element, where these are decoded
+abbrev pub KnownAs : Option Known → ElementValue → Option Refusal → Type 0
+KnownAs decoded e None = HasValue decoded e
+KnownAs decoded e (Some refusal) = HasNone decoded e refusal
 
 abbrev pub ItemAs : Code → ElementValue → Option Refusal → Type 0
-ItemAs code e None = IsRead code e
-ItemAs code e (Some refusal) = IsItemRefused code e refusal
+ItemAs code e refusal = KnownAs (decodes code) e refusal

@@ -1,10 +1,10 @@
 -- For private contracts alone: the tests of a value, by its parts.
 use Rattle.std.specs.Prelude.{◌≡◌, ℕ, ◌+◌, ◌<◌, ◌≤◌, true, false, is_some, List, length, Option}
 use Rattle.std.specs.List.{AllByRecursion}
-use Rattle.wl_elem.specs.Element.{ElementValue}
+use Rattle.wl_elem.specs.Element.{ElementValue, body_limit}
 use Rattle.wl_elem.specs.ElementList.{Elems}
-use Rattle.wl_ttlm.specs.Fields.{Fits}
-use Rattle.wl_ttlm.specs.Ttlm.{has_bit}
+use Rattle.wl_elem.specs.Bits.{has_bit}
+use Rattle.wl_elem.specs.Fields.{Fits}
 use Rattle.wl_action.specs.declared.action.Action.{Action}
 use Rattle.wl_action.specs.declared.action.Action.TheVariants.{MapAsk, MapReply, MapTeardown, Epcs, Eml, ReconfAsk, ReconfReply, AddBaAsk, AddBaReply, DelBa}
 use Rattle.wl_action.specs.declared.code.Code.{Code}
@@ -56,4 +56,4 @@ pub record AreFit (code : Code) (list : List ElementValue) : Type 0 where
 
 -- the list has a spelling, with so many octets before it within the limit
 abbrev pub HasRoom : ℕ → List ElementValue → Type 0
-HasRoom before list = (elems : List ℕ) × Elems list elems × (before + length elems ≤ 16777216)
+HasRoom before list = (elems : List ℕ) × Elems list elems × (before + length elems ≤ body_limit)

@@ -1,10 +1,10 @@
 //! The value of a body.
 
-ghost use Rattle.std.specs.Prelude.{◌<◌, ◌^◌, ◌↔◌, length, IsTrue, IfOk};
+ghost use Rattle.std.specs.Prelude.{◌≡◌, ◌<◌, ◌^◌, ◌↔◌, [], false, length, IsTrue, IfOk, IfNone, MatchOption};
 ghost use Rattle.wl_action.specs.Action.{elements_of};
 
-use crate::fitting::is_writable;
 use crate::statuses::LinkStatuses;
+use crate::well_formed::is_writable;
 use std::alloc::Global;
 use wl_elem::{Bytes, Elements, Memory};
 
@@ -84,7 +84,8 @@ pub enum Action {
 }
 
 impl Action {
-    ghost use Rattle.wl_action.specs.Action.{IsWritable};
+    ghost use Rattle.wl_action.specs.Action.{IsWritable, has_elements};
+    ghost use Rattle.wl_action.specs.Writing.{kind_of};
 
     /// Whether some body has this value: exactly where `encode_action` takes it. The action of `Epcs`
     /// is 3 to 5, `links` and `update` are there as the control says and EMLMR is clear, there are at
@@ -96,5 +97,24 @@ impl Action {
         ensures exact { IfOk result (λ answer. IsTrue answer ↔ IsWritable self.now) }
     {
         is_writable(alloc, self)
+    }
+
+    /// The elements behind the fields, where the kind has them.
+    pub fn elements(&self) -> Option<&Elements>
+        ensures elements { MatchOption result (elements_of self.now ≡ []) (λ list. list.now ≡ elements_of self.now) }
+        ensures none { IfNone result (has_elements (kind_of self.now) ≡ false) }
+    {
+        match self {
+            Action::MapAsk { elements, .. }
+            | Action::MapReply { elements, .. }
+            | Action::ReconfAsk { elements, .. }
+            | Action::AddBaAsk { elements, .. }
+            | Action::AddBaReply { elements, .. } => Some(elements),
+            Action::MapTeardown { .. }
+            | Action::Epcs { .. }
+            | Action::Eml { .. }
+            | Action::ReconfReply { .. }
+            | Action::DelBa { .. } => None,
+        }
     }
 }

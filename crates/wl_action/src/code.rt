@@ -1,9 +1,9 @@
 //! The kinds of bodies.
 
 ghost use Rattle.std.specs.Prelude.{◌≡◌};
-ghost use Rattle.wl_action.specs.Action.{code_of, protected_code, block_ack_code, widths, wrong_number, is_known};
+ghost use Rattle.wl_action.specs.Action.{code_of, protected_code, block_ack_code, widths, wrong_number, decodes, is_known};
 
-use wl_elem::Why;
+use wl_elem::{Known, Why};
 
 /// A kind of body.
 #[derive(Clone, Copy, Debug, PartialEq, Eq)]
@@ -78,6 +78,17 @@ impl Code {
             Code::Eml | Code::ReconfReply => &[1, 1],
             Code::DelBa => &[2, 2],
             Code::AddBaAsk | Code::AddBaReply => &[1, 2, 2, 2],
+        }
+    }
+
+    /// Which elements behind the fields are decoded.
+    pub fn decodes(self) -> Option<Known>
+        ensures { result ≡ decodes self }
+    {
+        match self {
+            Code::MapAsk | Code::MapReply => Some(Known::TidToLinkMapping),
+            Code::ReconfAsk => Some(Known::MultiLink),
+            _ => None,
         }
     }
 

@@ -6,7 +6,7 @@ ghost use Rattle.wl_elem.specs.Answers.{Answers, AnswersOnly};
 ghost use Rattle.wl_elem.specs.Element.{body_limit};
 ghost use Rattle.wl_action.specs.declared.action.Action.{Action};
 ghost use Rattle.wl_action.specs.Action.{ReadAs, elements_of, field_fault};
-ghost use Rattle.wl_action.specs.Reading.{word_at, statuses_in, links_width, update_width, made, BehindAs};
+ghost use Rattle.wl_action.specs.Reading.{statuses_in, links_width, update_width, made, BehindAs};
 
 use crate::action::Action;
 use crate::code::Code;
@@ -15,15 +15,7 @@ use crate::laws::read_once;
 use crate::list::list_of;
 use crate::statuses::{LinkStatus, LinkStatuses};
 use std::alloc::Global;
-use wl_elem::{Bytes, Fault, Memory};
-
-/// The number of two octets at an index.
-fn word_at(octets: &[u8], i: usize) -> u16
-    requires { i + 1 < length octets.now }
-    ensures { result ≡ word_at octets.now i }
-{
-    u16::from_le_bytes([octets[i], octets[i + 1]])
-}
+use wl_elem::{Bytes, Fault, Memory, u16_at};
 
 /// The octets from an index on.
 fn behind(octets: &[u8], i: usize) -> &[u8]
@@ -53,7 +45,7 @@ fn map_reply(alloc: Global, rest: &[u8]) -> Result<Action, Fault>
     let elements = list_of(alloc, Code::MapReply, 5, behind(rest, 3))?;
     Ok(Action::MapReply {
         token: rest[0],
-        status: word_at(rest, 1),
+        status: u16_at(rest, 1),
         elements,
     })
 }
@@ -80,7 +72,7 @@ fn eml(alloc: Global, rest: &[u8]) -> Result<Action, Fault>
     let mut end = 2;
     let mut links = None;
     if control % 2 == 1 {
-        links = Some(word_at(rest, end));
+        links = Some(u16_at(rest, end));
         end += 2;
     }
     let mut update = None;
@@ -119,7 +111,7 @@ fn statuses_of(alloc: Global, count: u8, octets: &[u8]) -> Result<LinkStatuses, 
     'links: for _link in 0..count {
         list.push(LinkStatus {
             link: left[0],
-            status: word_at(left, 1),
+            status: u16_at(left, 1),
         })?;
         left = behind(left, 3);
     }
@@ -148,9 +140,9 @@ fn add_ba_ask(alloc: Global, rest: &[u8]) -> Result<Action, Fault>
     let elements = list_of(alloc, Code::AddBaAsk, 9, behind(rest, 7))?;
     Ok(Action::AddBaAsk {
         token: rest[0],
-        params: word_at(rest, 1),
-        timeout: word_at(rest, 3),
-        start: word_at(rest, 5),
+        params: u16_at(rest, 1),
+        timeout: u16_at(rest, 3),
+        start: u16_at(rest, 5),
         elements,
     })
 }
@@ -163,9 +155,9 @@ fn add_ba_reply(alloc: Global, rest: &[u8]) -> Result<Action, Fault>
     let elements = list_of(alloc, Code::AddBaReply, 9, behind(rest, 7))?;
     Ok(Action::AddBaReply {
         token: rest[0],
-        status: word_at(rest, 1),
-        params: word_at(rest, 3),
-        timeout: word_at(rest, 5),
+        status: u16_at(rest, 1),
+        params: u16_at(rest, 3),
+        timeout: u16_at(rest, 5),
         elements,
     })
 }
@@ -175,8 +167,8 @@ fn del_ba(alloc: Global, rest: &[u8]) -> Result<Action, Fault>
     ensures { Answers result (BehindAs Code.DelBa 2 rest.now) }
 {
     Ok(Action::DelBa {
-        params: word_at(rest, 0),
-        reason: word_at(rest, 2),
+        params: u16_at(rest, 0),
+        reason: u16_at(rest, 2),
         rest: Bytes::from_slice(alloc, behind(rest, 4))?,
     })
 }

@@ -5,41 +5,13 @@ ghost use Rattle.wl_elem.specs.Element.{body_limit};
 ghost use Rattle.wl_elem.specs.ElementList.{Elems};
 ghost use Rattle.wl_elem.specs.Encoding.{IsWithin};
 ghost use Rattle.wl_elem.specs.Octets.{octets_of};
-ghost use Rattle.wl_ttlm.specs.Fields.{field};
+ghost use Rattle.wl_elem.specs.Fields.{field};
 ghost use Rattle.wl_action.specs.Action.{statuses, front, IsAction, ActionOf, IsWritable, elements_of};
 
 use crate::action::Action;
-use crate::fitting::list_in;
 use crate::statuses::{LinkStatus, LinkStatuses};
 use std::alloc::Global;
-use wl_elem::{Bytes, Memory, encode_elements};
-
-/// A field of two octets.
-fn put_word(out: &mut Bytes, n: u16) -> Result<(), Memory>
-    ensures { OnOk result (out.new ≡ out.old ++ octets_of 2 n) }
-{
-    out.extend(&n.to_le_bytes())
-}
-
-/// A field of two octets, where it is there.
-fn put_word_if(out: &mut Bytes, number: Option<u16>) -> Result<(), Memory>
-    ensures { OnOk result (out.new ≡ out.old ++ field 2 number) }
-{
-    match number {
-        Some(n) => put_word(out, n),
-        None => Ok(()),
-    }
-}
-
-/// A field of one octet, where it is there.
-fn put_octet_if(out: &mut Bytes, number: Option<u8>) -> Result<(), Memory>
-    ensures { OnOk result (out.new ≡ out.old ++ field 1 number) }
-{
-    match number {
-        Some(n) => out.push(n),
-        None => Ok(()),
-    }
-}
+use wl_elem::{Bytes, Memory, encode_elements, put_u8, put_u16};
 
 /// The links with their statuses.
 fn put_statuses(out: &mut Bytes, list: &[LinkStatus]) -> Result<(), Memory>
@@ -47,7 +19,7 @@ fn put_statuses(out: &mut Bytes, list: &[LinkStatus]) -> Result<(), Memory>
 {
     'links: for status in list {
         out.push(status.link)?;
-        put_word(out, status.status)?;
+        put_u16(out, Some(status.status))?;
     }
     Ok(())
 }
@@ -56,7 +28,7 @@ fn put_map_reply(out: &mut Bytes, token: u8, status: u16) -> Result<(), Memory>
     ensures { OnOk result (out.new ≡ out.old ++ (37 ∷ 1 ∷ token ∷ octets_of 2 status)) }
 {
     out.extend(&[37, 1, token])?;
-    put_word(out, status)
+    put_u16(out, Some(status))
 }
 
 /// Category and action, and what stands behind them.
@@ -78,8 +50,8 @@ fn put_eml(
     ensures { OnOk result (out.new ≡ out.old ++ (37 ∷ 6 ∷ token ∷ control ∷ (field 2 links ++ (field 1 update ++ rest.now)))) }
 {
     out.extend(&[37, 6, token, control])?;
-    put_word_if(out, links)?;
-    put_octet_if(out, update)?;
+    put_u16(out, links)?;
+    put_u8(out, update)?;
     out.extend(rest.as_slice())
 }
 
@@ -98,42 +70,22 @@ fn put_reconf_reply(
     out.extend(rest.as_slice())
 }
 
-fn put_add_ba_ask(
-    out: &mut Bytes,
-    token: u8,
-    params: u16,
-    timeout: u16,
-    start: u16,
-) -> Result<(), Memory>
-    ensures { OnOk result (out.new ≡ out.old ++ (3 ∷ 0 ∷ token ∷ (octets_of 2 params ++ (octets_of 2 timeout ++ octets_of 2 start)))) }
+/// Three octets, and three numbers of two octets behind them.
+fn put_three(out: &mut Bytes, head: [u8; 3], a: u16, b: u16, c: u16) -> Result<(), Memory>
+    ensures { OnOk result (out.new ≡ out.old ++ (head ++ (octets_of 2 a ++ (octets_of 2 b ++ octets_of 2 c)))) }
 {
-    out.extend(&[3, 0, token])?;
-    put_word(out, params)?;
-    put_word(out, timeout)?;
-    put_word(out, start)
-}
-
-fn put_add_ba_reply(
-    out: &mut Bytes,
-    token: u8,
-    status: u16,
-    params: u16,
-    timeout: u16,
-) -> Result<(), Memory>
-    ensures { OnOk result (out.new ≡ out.old ++ (3 ∷ 1 ∷ token ∷ (octets_of 2 status ++ (octets_of 2 params ++ octets_of 2 timeout)))) }
-{
-    out.extend(&[3, 1, token])?;
-    put_word(out, status)?;
-    put_word(out, params)?;
-    put_word(out, timeout)
+    out.extend(&head)?;
+    put_u16(out, Some(a))?;
+    put_u16(out, Some(b))?;
+    put_u16(out, Some(c))
 }
 
 fn put_del_ba(out: &mut Bytes, params: u16, reason: u16, rest: &Bytes) -> Result<(), Memory>
     ensures { OnOk result (out.new ≡ out.old ++ (3 ∷ 2 ∷ (octets_of 2 params ++ (octets_of 2 reason ++ rest.now)))) }
 {
     out.extend(&[3, 2])?;
-    put_word(out, params)?;
-    put_word(out, reason)?;
+    put_u16(out, Some(params))?;
+    put_u16(out, Some(reason))?;
     out.extend(rest.as_slice())
 }
 
@@ -162,14 +114,14 @@ fn put_front(out: &mut Bytes, value: &Action) -> Result<(), Memory>
             timeout,
             start,
             ..
-        } => put_add_ba_ask(out, *token, *params, *timeout, *start),
+        } => put_three(out, [3, 0, *token], *params, *timeout, *start),
         Action::AddBaReply {
             token,
             status,
             params,
             timeout,
             ..
-        } => put_add_ba_reply(out, *token, *status, *params, *timeout),
+        } => put_three(out, [3, 1, *token], *status, *params, *timeout),
         Action::DelBa {
             params,
             reason,
@@ -183,7 +135,7 @@ fn elements_text(alloc: Global, value: &Action) -> Result<Bytes, Memory>
     requires { IsWithin (elements_of value.now) body_limit }
     ensures { IfOk result (λ octets. Elems (elements_of value.now) octets) }
 {
-    match list_in(value) {
+    match value.elements() {
         Some(list) => encode_elements(alloc, list),
         None => Ok(Bytes::new(alloc)),
     }

@@ -3,40 +3,12 @@
 ghost use Rattle.std.specs.Prelude.{◌≡◌, ◌+◌, ◌≤◌, ◌<◌, ◌^◌, ◌∷◌, [], Some, None, slice_index, length, IfOk, IfErr};
 ghost use Rattle.wl_elem.specs.Answers.{refusal_at};
 ghost use Rattle.wl_elem.specs.Element.{body_limit};
-ghost use Rattle.wl_ttlm.specs.Fields.{first_cut, width_if};
+ghost use Rattle.wl_elem.specs.Fields.{first_cut};
 ghost use Rattle.wl_action.specs.Action.{entry_widths, more_widths, field_fault, head_fault, cut_fault, widths};
 ghost use Rattle.wl_action.specs.Reading.{IsHead};
 
 use crate::code::{Code, code_of, is_known};
-use wl_elem::{Refusal, Why};
-
-/// The refusal at this place of the body.
-pub fn refusal_at(place: usize, why: Why) -> Refusal
-    requires { place < 2 ^ 32 }
-    ensures { result ≡ refusal_at place why }
-{
-    Refusal {
-        element: None,
-        sub: None,
-        inner: None,
-        place: place as u32,
-        why,
-    }
-}
-
-/// How many octets are left at the first of fields of these widths that isn't whole.
-fn first_cut(widths: &[usize], len: usize) -> Option<usize>
-    ensures { result ≡ first_cut widths.now len }
-{
-    let mut left = len;
-    'widths: for width in widths {
-        if left < *width {
-            return Some(left);
-        }
-        left -= *width;
-    }
-    None
-}
+use wl_elem::{Refusal, Why, first_cut, width_if};
 
 /// How many octets are left at the first link or status that isn't whole, of so many of both: the
 /// links of whole pairs are whole, and one octet behind those is a whole link.
@@ -54,8 +26,8 @@ fn entries_cut(count: u8, len: usize) -> Option<usize>
 fn optional_cut(control: u8, len: usize) -> Option<usize>
     ensures { result ≡ first_cut (more_widths Code.Eml (0 ∷ control ∷ [])) len }
 {
-    let links = if control % 2 == 1 { 2 } else { 0 };
-    let update = if control / 4 % 2 == 1 { 1 } else { 0 };
+    let links = width_if(control % 2 == 1, 2);
+    let update = width_if(control / 4 % 2 == 1, 1);
     first_cut(&[links, update], len)
 }
 
@@ -65,7 +37,7 @@ fn cut_fault(len: usize, left: Option<usize>) -> Option<Refusal>
     ensures { result ≡ cut_fault len left None }
 {
     match left {
-        Some(left) => Some(refusal_at(len.saturating_sub(left), Why::Truncated)),
+        Some(left) => Some(Refusal::at(len.saturating_sub(left), Why::Truncated)),
         None => None,
     }
 }
@@ -78,7 +50,7 @@ fn eml_fault(rest: &[u8]) -> Option<Refusal>
 {
     let control = rest[1];
     if control / 2 % 2 == 1 {
-        return Some(refusal_at(3, Why::EmlmrLeftOut));
+        return Some(Refusal::at(3, Why::EmlmrLeftOut));
     }
     cut_fault(rest.len() + 2, optional_cut(control, rest.len() - 2))
 }
@@ -116,16 +88,16 @@ pub fn head_of(body: &[u8]) -> Result<(Code, u8, &[u8]), Refusal>
     ensures err { IfErr result (λ refusal. head_fault body.now ≡ Some refusal) }
 {
     let [category, after @ ..] = body else {
-        return Err(refusal_at(0, Why::Truncated));
+        return Err(Refusal::at(0, Why::Truncated));
     };
     if !is_known(*category) {
-        return Err(refusal_at(0, Why::UnknownCategory));
+        return Err(Refusal::at(0, Why::UnknownCategory));
     }
     let [action, rest @ ..] = after else {
-        return Err(refusal_at(1, Why::Truncated));
+        return Err(Refusal::at(1, Why::Truncated));
     };
     let Some(code) = code_of(*category, *action) else {
-        return Err(refusal_at(1, Why::UnknownAction));
+        return Err(Refusal::at(1, Why::UnknownAction));
     };
     match field_fault(code, rest) {
         Some(refusal) => Err(refusal),

@@ -1,32 +1,29 @@
 //! The element list behind the fields.
 
 ghost use Rattle.std.specs.Prelude.{◌≡◌, ◌+◌, ◌≤◌, ◌<◌, ◌^◌, ℕ, List, Option, Some, Result, true, length, count_by, IfOk, IsTrue};
-ghost use Rattle.wl_elem.specs.declared.fault.Fault.TheVariants.{Refused};
 ghost use Rattle.wl_elem.specs.Answers.{Answers};
 ghost use Rattle.wl_elem.specs.Element.{body_limit};
 ghost use Rattle.wl_elem.specs.Identity.{has_identity, is_mapping, is_multi_link};
-ghost use Rattle.wl_action.specs.Action.{is_reconf, is_reconf_link, right_numbers, moved};
-ghost use Rattle.wl_action.specs.Reading.{ListAs, FirstAs, ItemAs, MappingAs, MultiLinkAs};
+ghost use Rattle.wl_action.specs.Action.{is_reconf, is_reconf_link, right_numbers};
+ghost use Rattle.wl_action.specs.Reading.{ListAs, FirstAs, ItemAs};
 
 use crate::code::Code;
-use crate::head::refusal_at;
+use crate::known::decode_known;
 use std::alloc::Global;
-use wl_elem::{Element, Elements, Fault, Memory, Refusal, decode_elements};
-use wl_mle::decode_ml;
-use wl_ttlm::decode_ttlm;
+use wl_elem::{Element, Elements, Fault, Known, Memory, Refusal, decode_elements};
 
 /// Whether it is a TID-To-Link Mapping element.
 fn is_mapping(e: &Element) -> bool
     ensures { result ≡ is_mapping e.now }
 {
-    e.has_identity(255, Some(109))
+    e.known() == Some(Known::TidToLinkMapping)
 }
 
 /// Whether it is a Multi-Link element.
 fn is_multi_link(e: &Element) -> bool
     ensures { result ≡ is_multi_link e.now }
 {
-    e.has_identity(255, Some(107))
+    e.known() == Some(Known::MultiLink)
 }
 
 /// Whether it is a Multi-Link element whose control word has type 2.
@@ -73,42 +70,20 @@ pub fn right_numbers(code: Code, list: &Elements) -> bool
     }
 }
 
-/// The refusal of a mapping element, where it has one.
-fn mapping_refusal(alloc: Global, e: &Element) -> Result<Option<Refusal>, Memory>
-    ensures { IfOk result (λ refusal. MappingAs e.now refusal) }
-{
-    if !e.has_identity(255, Some(109)) {
-        return Ok(None);
-    }
-    match decode_ttlm(alloc, e) {
-        Ok(_) => Ok(None),
-        Err(Fault::Refused(refusal)) => Ok(Some(refusal)),
-        Err(Fault::Memory) => Err(Memory),
-    }
-}
-
-/// The refusal of a Multi-Link element, where it has one.
-fn multi_link_refusal(alloc: Global, e: &Element) -> Result<Option<Refusal>, Memory>
-    ensures { IfOk result (λ refusal. MultiLinkAs e.now refusal) }
-{
-    if !e.has_identity(255, Some(107)) {
-        return Ok(None);
-    }
-    match decode_ml(alloc, e) {
-        Ok(_) => Ok(None),
-        Err(Fault::Refused(refusal)) => Ok(Some(refusal)),
-        Err(Fault::Memory) => Err(Memory),
-    }
-}
-
 /// The refusal of an element that is to be decoded behind the fields of this kind.
 fn item_refusal(alloc: Global, code: Code, e: &Element) -> Result<Option<Refusal>, Memory>
     ensures { IfOk result (λ refusal. ItemAs code e.now refusal) }
 {
-    match code {
-        Code::MapAsk | Code::MapReply => mapping_refusal(alloc, e),
-        Code::ReconfAsk => multi_link_refusal(alloc, e),
-        _ => Ok(None),
+    let Some(known) = e.known() else {
+        return Ok(None);
+    };
+    if code.decodes() != Some(known) {
+        return Ok(None);
+    }
+    match decode_known(alloc, known, e) {
+        Ok(_) => Ok(None),
+        Err(Fault::Refused(refusal)) => Ok(Some(refusal)),
+        Err(Fault::Memory) => Err(Memory),
     }
 }
 
@@ -119,35 +94,24 @@ pub fn first_refusal(alloc: Global, code: Code, list: &Elements) -> Result<Optio
 {
     let elements = list.as_slice();
     'elements: for i in 0..elements.len() {
-        if let Some(mut refusal) = item_refusal(alloc, code, &elements[i])? {
-            refusal.element = Some(i as u32);
-            return Ok(Some(refusal));
+        if let Some(refusal) = item_refusal(alloc, code, &elements[i])? {
+            return Ok(Some(refusal.in_element(i)));
         }
     }
     Ok(None)
 }
 
-/// The refusal with its place counted from so far before.
-fn moved(mut refusal: Refusal, offset: u32) -> Refusal
-    requires { refusal.place + offset < 2 ^ 32 }
-    ensures { result ≡ moved offset refusal }
-{
-    refusal.place += offset;
-    refusal
-}
-
 /// The list of these octets, which stand at this place of the body behind the fields of this kind.
-pub fn list_of(alloc: Global, code: Code, offset: u32, octets: &[u8]) -> Result<Elements, Fault>
+pub fn list_of(alloc: Global, code: Code, offset: usize, octets: &[u8]) -> Result<Elements, Fault>
     requires { offset + length octets.now ≤ body_limit }
     ensures { Answers result (ListAs code offset octets.now) }
 {
     let list = match decode_elements(alloc, octets) {
         Ok(list) => list,
-        Err(Fault::Refused(refusal)) => return Err(Fault::Refused(moved(refusal, offset))),
-        Err(Fault::Memory) => return Err(Fault::Memory),
+        Err(fault) => return Err(fault.moved(offset)),
     };
     if !right_numbers(code, &list) {
-        return Err(Fault::Refused(refusal_at(offset as usize, code.wrong_number())));
+        return Err(Fault::at(offset, code.wrong_number()));
     }
     match first_refusal(alloc, code, &list)? {
         Some(refusal) => Err(Fault::Refused(refusal)),

@@ -1,12 +1,12 @@
 -- A frame that is delivered: the answer is the one that the history says, and what is forged is told.
-use Rattle.std.proofs.Common.{◌≡◌, ◌≢◌, ℕ, zero, suc, ◌<◌, ◌^◌, List, [], ◌∷◌, length, Option, None, Some, Result, refl, sym, ap, subst, ◌∙◌}
+use Rattle.std.proofs.Common.{◌≡◌, ◌≢◌, ℕ, zero, suc, ◌<◌, ◌≤◌, ◌^◌, List, [], ◌∷◌, length, Option, None, Some, Result, refl, sym, ap, subst, ◌∙◌}
 use Rattle.std.specs.List.{Contains}
 use Rattle.wl_elem.specs.declared.fault.Refusal.{Refusal}
 use Rattle.wl_elem.specs.declared.lane.EndId.{EndId}
 use Rattle.wl_elem.specs.Lanes.{lane_index, peer_of}
 use Rattle.wl_frame.specs.Frame.{FrameValue}
 use Rattle.wl_frame.specs.Refusals.{ReadAs}
-use Rattle.wl_frame.specs.Sealing.{Sealing, IsSealing}
+use Rattle.wl_frame.specs.Sealing.{Sealing, IsUnder, IsSealing}
 use Rattle.wl_number.specs.declared.numbers.Numbers.{Numbers}
 use Rattle.wl_number.specs.OrderRule.{OrderRule, list_at, list_of}
 use Rattle.wl_history.specs.declared.opened.Opened.{Opened}
@@ -19,7 +19,7 @@ use Rattle.wl_history.specs.Ends.{mld_of, receive_size}
 use Rattle.wl_history.specs.Words.{queued, body_at, booked, receiving, last_of, at, nth_of, Airing}
 use Rattle.wl_history.specs.Answers.{receive_answer}
 use Rattle.wl_history.specs.Hearing.{octets_of, sealed_under, opened_under, text_of, Closed, IsClosed, Judged, Answered, ToOpen, judged}
-use Rattle.wl_history.specs.Legal.{newest, opened_answer, judged_answer, HeardIf, ForgedAs, ForgedIf, frame_named}
+use Rattle.wl_history.specs.Legal.{newest, opened_answer, judged_answer, HeardIf, IsBodyIn, ForgedAs, ForgedIf, frame_named}
 use Rattle.wl_history.specs.Stands.{octets_all}
 use Rattle.wl_air.proofs.Delivering.{AirLaws, found, none_found, not_forged_closed, not_forged_booked, all_unbooked}
 
@@ -122,15 +122,16 @@ module _ (text : Sealing) (sealing : IsSealing text) (laws : AirLaws) (start : E
     λ opened forged. not_forged_closed text start e before c nobody opened (forged_as opened (ToOpen c) is forged),
   )
 
-  module _ (c : Closed) (is : judged start e (newest start before) link reading ≡ ToOpen c) (fits : IsClosed c) (rule : OrderRule (booked (peer_of e) before)) (four : Opened) (under : four ≡ opened_under start e c four.body) (opens : text_of text four ≡ c.payload) where
+  module _ (c : Closed) (is : judged start e (newest start before) link reading ≡ ToOpen c) (fits : IsClosed c) (rule : OrderRule (booked (peer_of e) before)) (four : Opened) (under : four ≡ opened_under start e c four.body) (opens : text_of text four ≡ c.payload)
+      (sound : IsUnder four.key four.nonce four.aad) (body_is : IsBodyIn c.payload four.body) where
     -- it opens to the body of a booking
-    pub booked_heard : (o : Outcome) (n : Numbers) → Contains (list_of (booked (peer_of e) before) c.lane) n → n.key ≡ c.key → n.pn ≡ c.pn
+    pub booked_heard : (o : Outcome) (n : Numbers) → length (body_at (queued (peer_of e) (lane_index c.lane) before) n.pos) ≤ 2304 → Contains (list_of (booked (peer_of e) before) c.lane) n → n.key ≡ c.key → n.pn ≡ c.pn
         → sealed_under start (peer_of e) c.lane n (body_at (queued (peer_of e) (lane_index c.lane) before) n.pos) ≡ four
         → o ≡ receive_answer c.lane c.number (receive_size start (lane_index c.lane)) (record { numbers = n; body = body_at (queued (peer_of e) (lane_index c.lane) before) n.pos }) (receiving start e (lane_index c.lane) before)
         → Heard o × Unforged
-    booked_heard o n own key pn sealed answer = (
+    booked_heard o n short own key pn sealed answer = (
       heard_as o (ToOpen c) is (answer ∙ sym (ap (opened_answer start e before c) (found text start e before c laws rule four n own under opens key pn sealed))),
-      λ opened forged. not_forged_booked text start e before c sealing four n fits.of_lane own under opens sealed opened (forged_as opened (ToOpen c) is forged),
+      λ opened forged. not_forged_booked text start e before c sealing four n sound body_is short fits.of_lane own under opens sealed opened (forged_as opened (ToOpen c) is forged),
     )
 
     -- it opens to what its sender never booked
@@ -143,5 +144,5 @@ module _ (text : Sealing) (sealing : IsSealing text) (laws : AirLaws) (start : E
           reading,
           read_there,
           subst (λ (j : Judged). ForgedAs text start e before j four) (sym is)
-              (under, opens, all_unbooked text start e before c laws six fits.of_lane fits.pn_fits in_range four under none),
+              (under, opens, body_is, all_unbooked text start e before c laws six fits.of_lane fits.pn_fits in_range four under none),
         )

@@ -1,5 +1,5 @@
 -- A frame that is delivered: what its octets open to, and whose booking that is.
-use Rattle.std.proofs.Common.{◌≡◌, ◌≢◌, ℕ, zero, suc, ◌<◌, ◌^◌, Bool, true, false, List, [], ◌∷◌, length, Option, None, Some, Result, refl, sym, ap, subst, ◌∙◌, arith, eq-eqb}
+use Rattle.std.proofs.Common.{◌≡◌, ◌≢◌, ℕ, zero, suc, ◌<◌, ◌≤◌, ◌^◌, Bool, true, false, List, [], ◌∷◌, length, Option, None, Some, Result, refl, sym, ap, subst, ◌∙◌, arith, eq-eqb}
 use Rattle.std.specs.Prelude.{if◌then◌else◌, ◌==◌}
 use Rattle.std.specs.List.{Contains}
 use Rattle.std.proofs.lemmas.Bool.{eqb-true, and_from, and_parts}
@@ -12,7 +12,7 @@ use Rattle.wl_frame.specs.declared.header.Kind.{Kind}
 use Rattle.wl_frame.specs.Frame.{FrameValue, IsKind}
 use Rattle.wl_frame.specs.Refusals.{ReadAs}
 use Rattle.wl_frame.specs.Nonce.{nonce, lane_of}
-use Rattle.wl_frame.specs.Sealing.{Sealing, IsSealing}
+use Rattle.wl_frame.specs.Sealing.{Sealing, IsUnder, CanSeal, IsSealing}
 use Rattle.wl_number.specs.declared.numbers.Numbers.{Numbers}
 use Rattle.wl_number.specs.OrderRule.{OrderRule, list_at, list_of, same_pair}
 use Rattle.wl_history.specs.declared.opened.Opened.{Opened}
@@ -21,7 +21,7 @@ use Rattle.wl_history.specs.declared.step.Step.{Step}
 use Rattle.wl_history.specs.Ends.{mld_of}
 use Rattle.wl_history.specs.Words.{queued, body_at, booked}
 use Rattle.wl_history.specs.Hearing.{kind_of, sealed_under, opened_under, text_of, same_octets, Closed, ToOpen, is_of, booking_of}
-use Rattle.wl_history.specs.Legal.{ForgedAs, IsUnbooked}
+use Rattle.wl_history.specs.Legal.{ForgedAs, IsBodyIn, IsUnbooked}
 
 -- what the crates below say
 pub record AirLaws : Type 0 where
@@ -114,20 +114,28 @@ module _ (text : Sealing) (start : EndStart) (e : EndId) (before : List Step) (c
 
   -- a payload that no body opens isn't forged
   pub not_forged_closed : ((b : List ℕ) → text_of text (opened_under start e c b) ≢ c.payload) → (other : Opened) → ForgedAs text start e before (ToOpen c) other → ⊥
-  not_forged_closed nobody other (under, opens, unbooked) = nobody other.body (ap (text_of text) (sym under) ∙ opens)
+  not_forged_closed nobody other (under, opens, body, unbooked) = nobody other.body (ap (text_of text) (sym under) ∙ opens)
 
-  -- what opens to one body opens to no other
-  one_opened : IsSealing text → (four other : Opened) → four ≡ opened_under start e c four.body → text_of text four ≡ c.payload → other ≡ opened_under start e c other.body → text_of text other ≡ c.payload → other ≡ four
-  one_opened sealing four other under opens under' opens' =
+  -- what opens to the body of an MSDU opens to no other
+  one_opened : IsSealing text → (four other : Opened) → IsUnder four.key four.nonce four.aad → IsBodyIn c.payload four.body → length four.body ≤ 2304 → IsBodyIn c.payload other.body
+      → four ≡ opened_under start e c four.body → text_of text four ≡ c.payload → other ≡ opened_under start e c other.body → text_of text other ≡ c.payload → other ≡ four
+  one_opened sealing four other sound own_body short other_body under opens under' opens' =
+      let own : Opened = opened_under start e c [] in
+      let is : IsUnder own.key own.nonce own.aad = subst (λ (o : Opened). IsUnder o.key o.nonce o.aad) under sound in
+      let can : CanSeal own.key own.nonce own.aad four.body = record { under = is; octets = own_body.octets; limit = omega (arith, short) } in
+      let longer = sealing.longer own.key own.nonce own.aad four.body can in
+      let payload : length (text own.key own.nonce own.aad four.body) ≡ length c.payload = ap (λ (t : List ℕ). length t) (ap (text_of text) (sym under) ∙ opens) in
+      let can' : CanSeal own.key own.nonce own.aad other.body = record { under = is; octets = other_body.octets; limit = omega (arith, short, longer, payload, other_body.shorter) } in
       let texts : text_of text (opened_under start e c other.body) ≡ text_of text (opened_under start e c four.body) = ap (text_of text) (sym under') ∙ opens' ∙ sym opens ∙ ap (text_of text) under in
-      let body : other.body ≡ four.body = sealing.one_body (opened_under start e c []).key (opened_under start e c []).nonce (opened_under start e c []).aad other.body four.body texts in
+      let body : other.body ≡ four.body = sealing.one_body own.key own.nonce own.aad other.body four.body can' can texts in
       under' ∙ ap (opened_under start e c) body ∙ sym under
 
   -- a booked one isn't forged
-  pub not_forged_booked : IsSealing text → (four : Opened) (n : Numbers) → IsLane c.lane → Contains list n → four ≡ opened_under start e c four.body → text_of text four ≡ c.payload
+  pub not_forged_booked : IsSealing text → (four : Opened) (n : Numbers) → IsUnder four.key four.nonce four.aad → IsBodyIn c.payload four.body → length (body_at bodies n.pos) ≤ 2304 → IsLane c.lane → Contains list n → four ≡ opened_under start e c four.body → text_of text four ≡ c.payload
       → sealed_under start (peer_of e) c.lane n (body_at bodies n.pos) ≡ four → (other : Opened) → ForgedAs text start e before (ToOpen c) other → ⊥
-  not_forged_booked sealing four n lane there under opens sealed other (under', opens', unbooked) =
-      unbooked c.lane n lane there (sealed ∙ sym (one_opened sealing four other under opens under' opens'))
+  not_forged_booked sealing four n sound own_body short lane there under opens sealed other (under', opens', other_body, unbooked) =
+      let booked_short : length four.body ≤ 2304 = subst (λ (o : Opened). length o.body ≤ 2304) sealed short in
+      unbooked c.lane n lane there (sealed ∙ sym (one_opened sealing four other sound own_body booked_short other_body under opens under' opens'))
 
   -- what no booking of the lane under the key and packet number has, none has
   pub all_unbooked : AirLaws → length (mld_of start (peer_of e)) ≡ 6 → IsLane c.lane → c.pn < 2 ^ 48 → ((place : ℕ) (n : Numbers) → Contains (list_at (booked (peer_of e) before) place) n → n.pn < 2 ^ 48)

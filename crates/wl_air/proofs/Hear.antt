@@ -8,7 +8,7 @@ use Rattle.wl_elem.specs.declared.lane.Lane.{Lane}
 use Rattle.wl_elem.specs.Lanes.{lane_index, lane_count, peer_of}
 use Rattle.wl_frame.specs.Frame.{FrameValue}
 use Rattle.wl_frame.specs.Refusals.{ReadAs}
-use Rattle.wl_frame.specs.Sealing.{Sealing, IsSealing}
+use Rattle.wl_frame.specs.Sealing.{Sealing, IsUnder, IsSealing}
 use Rattle.wl_number.specs.declared.numbers.Numbers.{Numbers}
 use Rattle.wl_number.specs.OrderRule.{OrderRule, list_at, list_of}
 use Rattle.wl_history.specs.declared.arrival.Arrival.{Arrival}
@@ -24,7 +24,7 @@ use Rattle.wl_history.specs.Words.{queued, body_at, booked, nth_of, Airing, airi
 use Rattle.wl_history.specs.Answers.{receive_answer}
 use Rattle.wl_history.specs.Hearing.{Closed, IsClosed, Judged, Answered, ToOpen, judged, opened_under, sealed_under, text_of}
 use Rattle.wl_history.specs.Plain.{IsPlain}
-use Rattle.wl_history.specs.Legal.{Fits, IsStep, newest, frame_named, HeardIf as WordHeard, ForgedIf as WordForged}
+use Rattle.wl_history.specs.Legal.{Fits, IsBodyIn, IsStep, newest, frame_named, HeardIf as WordHeard, ForgedIf as WordForged}
 use Rattle.wl_history.specs.EndState.{EndState, lane_at, frames_on, hear_answer, after_hear}
 use Rattle.wl_history.specs.Stands.{EndStands}
 use Rattle.wl_end.specs.declared.peeking.Peek.{Peek}
@@ -36,6 +36,7 @@ use Rattle.wl_air.specs.Acting.{Heard, HeardIf, Forged, ForgedIf, arrival_of}
 use Rattle.wl_air.proofs.Standing.{same_words, step, received_then}
 use Rattle.wl_air.proofs.Hearing.{hear_stands, heard_same}
 use Rattle.wl_air.proofs.Delivering.{AirLaws}
+use Rattle.wl_air.proofs.Short.{queued_short}
 use Rattle.wl_air.proofs.Delivered.{IsNamed, SameAir, none_named, plain_heard, closed_heard, booked_heard, forged_heard}
 use Rattle.wl_air.proofs.Made.{made, sound_end, own_newest, same_air, octets_there, mld_six, end_is, lane_within}
 
@@ -133,7 +134,8 @@ module _ (text : Sealing) (sealing : IsSealing text) (laws : AirLaws) (hears : H
         ∙ ap (λ (m : List ℕ). sealed_under (record x { ap = y.ap; sta = m }) sender lane n body) same.sta_same
         ∙ ap (λ (m : List ℕ). sealed_under (record x { ap = y.ap; sta = y.sta; key = m }) sender lane n body) same.key_same
 
-    module _ (c : Closed) (is : judged own e (newest own before) link seen.reading ≡ ToOpen c) (four : Opened) (under : four ≡ opened_under own e c four.body) (opens : text_of text four ≡ c.payload) where
+    module _ (c : Closed) (is : judged own e (newest own before) link seen.reading ≡ ToOpen c) (four : Opened) (under : four ≡ opened_under own e c four.body) (opens : text_of text four ≡ c.payload)
+        (sound : IsUnder four.key four.nonce four.aad) (body_is : IsBodyIn c.payload four.body) where
       fits : IsClosed c
       fits = hears.fits own e (newest own before) link octets seen.reading c seen.read is
 
@@ -187,7 +189,7 @@ module _ (text : Sealing) (sealing : IsSealing text) (laws : AirLaws) (hears : H
           let word_answer = here ∙ heard_same text start e s before nine pairs (h.ends e) thread link nth c.lane lane_lt c.number arrival
           ∙ ap (λ (x : List ℕ). receive_answer c.lane c.number (receive_size own (lane_index c.lane)) (record { numbers = n; body = x }) (receiving own e (lane_index c.lane) before)) body in
           let there' : Contains (list_of (booked (peer_of e) before) c.lane) n = subst (λ (bs : List (List Numbers)). Contains (list_of bs c.lane) n) (h.ends (peer_of e)).booked_are b.booked in
-          let legal = step_of o (booked_heard text sealing laws own e before link nth named.airing named.there octets named.octets_are seen.reading seen.read c is fits rule four under opens o n there' key_same refl (sealed_word n four b.sealed) word_answer) in
+          let legal = step_of o (booked_heard text sealing laws own e before link nth named.airing named.there octets named.octets_are seen.reading seen.read c is fits rule four under opens sound body_is o n (queued_short text start before h.legal (peer_of e) (lane_index c.lane) pos) there' key_same refl (sealed_word n four b.sealed) word_answer) in
           let stands = hear_stands text start e s before nine pairs (h.ends e) thread link nth c.lane lane_lt c.number arrival body in
           subst (Then o) (sym then_is)
           (made text start before a parts h thread (commands.Deliver e link nth) o e (after_hear c.lane c.number (receive_size own (lane_index c.lane)) arrival s) (with_air e (after_hear c.lane c.number (receive_size own (lane_index c.lane)) arrival s) a) refl (λ x. refl) refl legal
@@ -196,7 +198,7 @@ module _ (text : Sealing) (sealing : IsSealing text) (laws : AirLaws) (hears : H
       -- no booking of the sender's has it
       forged_then : ((pos : ℕ) → IsBookingOf p c.lane c.pn four pos → ⊥) → WordForged text own e before link (frame_named e before link nth) four
       forged_then none =
-          forged_heard text sealing laws own e before link nth named.airing named.there octets named.octets_are seen.reading seen.read c is fits rule four under opens
+          forged_heard text sealing laws own e before link nth named.airing named.there octets named.octets_are seen.reading seen.read c is fits rule four under opens sound body_is
           (mld_six text start before a parts h e (peer_of e)) (in_range (peer_of e))
           (λ n there' key pn sealed. none n.pos (record {
             booked = back n (key ∙ sym key_same) pn (subst (λ (bs : List (List Numbers)). Contains (list_of bs c.lane) n) (sym (h.ends (peer_of e)).booked_are) there');
@@ -223,7 +225,7 @@ module _ (text : Sealing) (sealing : IsSealing text) (laws : AirLaws) (hears : H
     opened_by c is (peeks.Answered answer) shut o s' (same, still) =
         shut_then c is answer shut.answer (λ b opens. shut.shut b (ap (text_of text) (own_under c b) ∙ opens)) o s' same still
     opened_by c is (peeks.Opened four lane number pn) opened o s' (pos, b, answer, after) =
-        booked_then c is four (opened.four_is ∙ own_under c four.body) (ap (text_of text) opened.four_is ∙ opened.opens) pos
+        booked_then c is four (opened.four_is ∙ own_under c four.body) (ap (text_of text) opened.four_is ∙ opened.opens) opened.under opened.body_is pos
         (subst (λ (x : Lane). IsBookingOf p x c.pn four pos) opened.lane_is (subst (λ (x : ℕ). IsBookingOf p lane x four pos) opened.pn_is b)) o s'
         (subst (λ (x : Lane). o ≡ hear_answer x c.number (receive_size s.start (lane_index x)) (arrival_of p x c.pn four pos) s) opened.lane_is
         (subst (λ (x : ℕ). o ≡ hear_answer lane x (receive_size s.start (lane_index lane)) (arrival_of p lane c.pn four pos) s) opened.number_is
@@ -247,7 +249,7 @@ module _ (text : Sealing) (sealing : IsSealing text) (laws : AirLaws) (hears : H
     forged_open c is (peeks.Answered answer) shut opened forged = absurd forged
     forged_open c is (peeks.Opened four lane number pn) own_opened opened (same, none) =
         subst (WordForged text own e before link (frame_named e before link nth)) (sym same)
-        (forged_then c is four (own_opened.four_is ∙ own_under c four.body) (ap (text_of text) own_opened.four_is ∙ own_opened.opens)
+        (forged_then c is four (own_opened.four_is ∙ own_under c four.body) (ap (text_of text) own_opened.four_is ∙ own_opened.opens) own_opened.under own_opened.body_is
         (λ pos b. none pos (subst (λ (x : Lane). IsBookingOf p x pn four pos) (sym own_opened.lane_is) (subst (λ (x : ℕ). IsBookingOf p c.lane x four pos) (sym own_opened.pn_is) b))))
 
     forged_by : (j : Judged) → judged own e (newest own before) link seen.reading ≡ j → PeekedAs text s.start j peek → (opened : Opened) → Forged p peek opened → WordForged text own e before link (frame_named e before link nth) opened

@@ -6,6 +6,7 @@ pub mod Acting
 pub mod Delivered
 pub mod Lasts
 pub mod Made
+pub mod Short
 pub mod Hear
 pub mod Windows
 pub mod Bounds

@@ -24,6 +24,7 @@ use Rattle.wl_air.specs.declared.fault.StepFault.{StepFault}
 use Rattle.wl_air.specs.declared.fault.StepFault.TheVariants as faults
 use Rattle.wl_air.specs.Acked.{ack_of}
 use Rattle.wl_air.specs.Air.{AirState, end_of, acks_of, with_end, with_acks}
+use Rattle.wl_elem.specs.Element.{msdu_limit}
 
 -- an acknowledgement that is taken, where it is there
 abbrev pub ack_answer : Option Ack → EndState → Outcome
@@ -105,7 +106,7 @@ IsStepFault text command a faults.Memory = Unit {0}
 
 -- a body that is queued has a length that bodies have
 abbrev pub BodyFits : Command → Type 0
-BodyFits (commands.Queue end tid body) = (1 ≤ length body) × (length body ≤ 2304)
+BodyFits (commands.Queue end tid body) = (1 ≤ length body) × (length body ≤ msdu_limit)
 BodyFits other = Unit {0}
 
 -- the links that a command names are below 15

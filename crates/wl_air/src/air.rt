@@ -20,6 +20,7 @@ ghost use Rattle.wl_air.specs.Acting.{Acts, BodyFits, IsStepFault, HeardIf, IsHe
 ghost use Rattle.wl_air.specs.World.{IsRoomy};
 ghost use Rattle.wl_history.specs.EndState.{EndState, IsEnd, lane_at, after_queue, after_reserve, after_book, after_put};
 ghost use Rattle.wl_end.specs.Putting.{put_of, aired_octets};
+ghost use Rattle.wl_elem.specs.Element.{msdu_limit};
 
 use crate::acks::Acks;
 use crate::fault::StepFault;
@@ -230,7 +231,7 @@ impl Air {
         body: &Bytes,
     ) -> Result<Outcome, Memory>
         requires some { 1 ≤ length body.now }
-        requires limit { length body.now ≤ 2304 }
+        requires limit { length body.now ≤ msdu_limit }
         requires room { length (lane_at (end_of self.old end) tid).queue < 2 ^ 32 - 8192 }
         ensures answer { IfOk result (λ o. o ≡ IsQueued (length (lane_at (end_of self.old end) tid).queue)) }
         ensures plain { IfOk result IsPlain }

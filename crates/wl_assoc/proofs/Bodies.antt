@@ -1,21 +1,18 @@
 -- The bodies are read in one way.
-use Rattle.std.proofs.Common.{◌≡◌, ℕ, ◌+◌, ◌*◌, ◌/◌, ◌%◌, ◌<◌, ◌≤◌, List, [], ◌∷◌, ◌++◌, length, drop, Result, Ok, Err, refl, sym, ap, subst, ◌∙◌, arith, inl, inr}
-use Rattle.std.specs.List.{AllByRecursion}
+use Rattle.std.proofs.Common.{◌≡◌, ℕ, ◌+◌, ◌-◌, ◌*◌, ◌/◌, ◌%◌, ◌<◌, ◌≤◌, List, [], ◌∷◌, ◌++◌, length, drop, Result, Ok, Err, refl, sym, ap, subst, ◌∙◌, arith, inl, inr}
 use Rattle.wl_elem.specs.declared.fault.Refusal.{Refusal}
 use Rattle.wl_elem.specs.declared.why.Why.TheVariants.{Truncated}
 use Rattle.wl_elem.specs.declared.fault.Fault.{Fault}
 use Rattle.wl_elem.specs.declared.fault.Fault.TheVariants as faults
-use Rattle.wl_elem.specs.Answers.{refusal_at, Answers, AnswersOnly}
-use Rattle.wl_elem.specs.Element.{ElementValue}
+use Rattle.wl_elem.specs.Answers.{refusal_at, moved, Answers, AnswersOnly}
+use Rattle.wl_elem.specs.Element.{ElementValue, body_limit}
 use Rattle.wl_elem.specs.ElementList.{Elems, ElemsRefused, ReadAs}
 use Rattle.wl_elem.specs.Encoding.{HasLength}
 use Rattle.wl_elem.specs.Octets.{octets_of}
+use Rattle.wl_elem.proofs.Octets.{IsOctets}
 use Rattle.wl_assoc.specs.declared.association.AssocAsk.{AssocAsk}
 use Rattle.wl_assoc.specs.declared.association.AssocReply.{AssocReply}
-use Rattle.wl_assoc.specs.Association.{AskOf, ReplyOf, IsAskWritable, IsReplyWritable, behind, BodyRefused, ReadsAsk, ReadsReply}
-
-abbrev pub IsOctets : List ℕ → Type 0
-IsOctets octets = AllByRecursion (λ octet. octet < 256) octets
+use Rattle.wl_assoc.specs.Association.{AskOf, ReplyOf, IsAskWritable, IsReplyWritable, BodyRefused, ReadsAsk, ReadsReply}
 
 -- octets are read in one way as a list of elements, and all octets are read
 abbrev pub ListsReadOnce : Type 0
@@ -67,7 +64,7 @@ one_body_refusal once fixed body a b (inl (short, e)) (inl (again, f)) = e ∙ s
 one_body_refusal once fixed body a b (inl (short, e)) (inr (long, inside, refused, f)) = absurd (omega arith)
 one_body_refusal once fixed body a b (inr (long, inside, refused, e)) (inl (short, f)) = absurd (omega arith)
 one_body_refusal once fixed body a b (inr (long, inside, refused, e)) (inr (le, other, again, f)) =
-    e ∙ ap (behind fixed) (one_list_refusal once (drop fixed body) inside other refused again) ∙ sym f
+    e ∙ ap (moved fixed) (one_list_refusal once (drop fixed body) inside other refused again) ∙ sym f
 
 one_ask : ListsReadOnce → (body : List ℕ) (a b : AssocAsk) → AskOf a body → AskOf b body → a ≡ b
 one_ask once body a b p q =
@@ -111,7 +108,7 @@ ask_behind a b c d rest (Ok list) is read =
       Ok (record { capability = a + 256 * b; listen = c + 256 * d; elements = list }),
       record { capability = one.1; listen = two.1; elems = rest; list = read; text = one.0 ∙ ap (λ (x : List ℕ). octets_of 2 (a + 256 * b) ++ x) two.0 },
     )
-ask_behind a b c d rest (Err inside) is refused = (Err (behind 4 inside), inr (omega arith, inside, refused, refl))
+ask_behind a b c d rest (Err inside) is refused = (Err (moved 4 inside), inr (omega arith, inside, refused, refl))
 
 ask_short : (body : List ℕ) → length body < 4 → (answer : Result AssocAsk Refusal) × ReadsAsk body answer
 ask_short body short = (Err (refusal_at _ Truncated), inl (short, refl))
@@ -138,7 +135,7 @@ reply_behind a b c d e f rest (Ok list) is read =
         text = one.0 ∙ ap (λ (x : List ℕ). octets_of 2 (a + 256 * b) ++ x) (two.0 ∙ ap (λ (x : List ℕ). octets_of 2 (c + 256 * d) ++ x) three.0);
       },
     )
-reply_behind a b c d e f rest (Err inside) is refused = (Err (behind 6 inside), inr (omega arith, inside, refused, refl))
+reply_behind a b c d e f rest (Err inside) is refused = (Err (moved 6 inside), inr (omega arith, inside, refused, refl))
 
 reply_short : (body : List ℕ) → length body < 6 → (answer : Result AssocReply Refusal) × ReadsReply body answer
 reply_short body short = (Err (refusal_at _ Truncated), inl (short, refl))
@@ -154,18 +151,18 @@ reply_is_read lists (a ∷ b ∷ c ∷ d ∷ e ∷ f ∷ rest) is = let reading 
 
 -- ---- what has a body
 
-pub ask_has_body : (ask : AssocAsk) (len : ℕ) → ask.capability < 65536 → ask.listen < 65536 → ((octets : List ℕ) × Elems ask.elements octets) → HasLength ask.elements len → len ≤ 16777212 → IsAskWritable ask
+pub ask_has_body : (ask : AssocAsk) (len : ℕ) → ask.capability < 65536 → ask.listen < 65536 → ((octets : List ℕ) × Elems ask.elements octets) → HasLength ask.elements len → len ≤ body_limit - 4 → IsAskWritable ask
 ask_has_body ask len capability listen (octets, list) has le =
     (_, omega (arith, has octets list), record { capability = capability; listen = listen; elems = octets; list = list; text = refl })
 
-pub ask_is_short : (ask : AssocAsk) (len : ℕ) → HasLength ask.elements len → IsAskWritable ask → len ≤ 16777212
+pub ask_is_short : (ask : AssocAsk) (len : ℕ) → HasLength ask.elements len → IsAskWritable ask → len ≤ body_limit - 4
 ask_is_short ask len has (body, le, of) = omega (arith, le, ap length of.text, has of.elems of.list)
 
-pub reply_has_body : (reply : AssocReply) (len : ℕ) → reply.capability < 65536 → reply.status < 65536 → reply.aid < 65536 → ((octets : List ℕ) × Elems reply.elements octets) → HasLength reply.elements len → len ≤ 16777210 → IsReplyWritable reply
+pub reply_has_body : (reply : AssocReply) (len : ℕ) → reply.capability < 65536 → reply.status < 65536 → reply.aid < 65536 → ((octets : List ℕ) × Elems reply.elements octets) → HasLength reply.elements len → len ≤ body_limit - 6 → IsReplyWritable reply
 reply_has_body reply len capability status aid (octets, list) has le =
     (_, omega (arith, has octets list), record { capability = capability; status = status; aid = aid; elems = octets; list = list; text = refl })
 
-pub reply_is_short : (reply : AssocReply) (len : ℕ) → HasLength reply.elements len → IsReplyWritable reply → len ≤ 16777210
+pub reply_is_short : (reply : AssocReply) (len : ℕ) → HasLength reply.elements len → IsReplyWritable reply → len ≤ body_limit - 6
 reply_is_short reply len has (body, le, of) = omega (arith, le, ap length of.text, has of.elems of.list)
 
 -- ---- the decoders' answers

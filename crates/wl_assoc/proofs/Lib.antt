@@ -1,7 +1,9 @@
 pub mod Bodies
+pub mod Tests
 pub mod Entries
 pub mod Lists
 pub mod Once
-pub mod Places
 pub mod Subs
 pub mod Total
+pub mod Repeated
+pub mod Linked

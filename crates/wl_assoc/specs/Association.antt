@@ -13,10 +13,11 @@
 -- | status               | 2        |
 -- | AID                  | 2        |
 -- | elements             | the rest |
-use Rattle.std.specs.Prelude.{◌≡◌, ℕ, ◌+◌, ◌*◌, ◌/◌, ◌<◌, ◌≤◌, ◌⊎◌, List, ◌++◌, length, drop, Result, Ok, Err}
+use Rattle.std.specs.Prelude.{◌≡◌, ℕ, ◌*◌, ◌/◌, ◌<◌, ◌≤◌, ◌⊎◌, List, ◌++◌, length, drop, Result, Ok, Err}
 use Rattle.wl_elem.specs.declared.fault.Refusal.{Refusal}
 use Rattle.wl_elem.specs.declared.why.Why.TheVariants.{Truncated}
-use Rattle.wl_elem.specs.Answers.{refusal_at}
+use Rattle.wl_elem.specs.Answers.{refusal_at, moved}
+use Rattle.wl_elem.specs.Element.{body_limit}
 use Rattle.wl_elem.specs.ElementList.{Elems, ElemsRefused}
 use Rattle.wl_elem.specs.Octets.{octets_of}
 use Rattle.wl_assoc.specs.declared.association.AssocAsk.{AssocAsk}
@@ -42,20 +43,16 @@ pub record ReplyOf (reply : AssocReply) (body : List ℕ) : Type 0 where
 -- some body, no longer than may be handed in, is this value's
 
 abbrev pub IsAskWritable : AssocAsk → Type 0
-IsAskWritable ask = (body : List ℕ) × (length body ≤ 16777216) × AskOf ask body
+IsAskWritable ask = (body : List ℕ) × (length body ≤ body_limit) × AskOf ask body
 
 abbrev pub IsReplyWritable : AssocReply → Type 0
-IsReplyWritable reply = (body : List ℕ) × (length body ≤ 16777216) × ReplyOf reply body
-
--- a refusal counted from further in front
-abbrev pub behind : ℕ → Refusal → Refusal
-behind n r = record r { place = n + r.place }
+IsReplyWritable reply = (body : List ℕ) × (length body ≤ body_limit) × ReplyOf reply body
 
 -- The body is refused: a field isn't whole, or the elements behind the fixed fields are refused.
 abbrev pub BodyRefused : ℕ → List ℕ → Refusal → Type 0
 BodyRefused fixed body refusal =
     ((length body < fixed) × (refusal ≡ refusal_at (2 * (length body / 2)) Truncated))
-    ⊎ ((fixed ≤ length body) × (inside : Refusal) × ElemsRefused (drop fixed body) inside × (refusal ≡ behind fixed inside))
+    ⊎ ((fixed ≤ length body) × (inside : Refusal) × ElemsRefused (drop fixed body) inside × (refusal ≡ moved fixed inside))
 
 abbrev pub AskRefused : List ℕ → Refusal → Type 0
 AskRefused body refusal = BodyRefused 4 body refusal

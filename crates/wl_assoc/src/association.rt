@@ -2,8 +2,7 @@
 
 ghost use Rattle.std.specs.Prelude.{◌↔◌, ◌<◌, ◌^◌, IsOk, IsTrue, IfOk, length};
 
-use crate::looking::{look_at_elements, look_at_number};
-use wl_elem::{Elements, Memory, encoded_len, spelled};
+use wl_elem::{BODY_LIMIT, Elements, Memory, encoded_len, spelled, u16_len};
 
 /// The body of an Association Request frame (IEEE Std 802.11, 9.3.3.5).
 #[derive(Debug, Drop)]
@@ -28,10 +27,8 @@ impl AssocAsk {
         ensures exact { IfOk result (λ answer. IsTrue answer ↔ IsAskWritable self.now) }
     {
         spelled();
-        look_at_number(self.capability);
-        look_at_number(self.listen);
-        look_at_elements(&self.elements);
-        Ok(encoded_len(&self.elements) <= 16_777_212)
+        let fixed = u16_len(Some(self.capability)) + u16_len(Some(self.listen));
+        Ok(encoded_len(&self.elements) <= (BODY_LIMIT - fixed) as u64)
     }
 }
 
@@ -60,10 +57,9 @@ impl AssocReply {
         ensures exact { IfOk result (λ answer. IsTrue answer ↔ IsReplyWritable self.now) }
     {
         spelled();
-        look_at_number(self.capability);
-        look_at_number(self.status);
-        look_at_number(self.aid);
-        look_at_elements(&self.elements);
-        Ok(encoded_len(&self.elements) <= 16_777_210)
+        let fixed = u16_len(Some(self.capability))
+            + u16_len(Some(self.status))
+            + u16_len(Some(self.aid));
+        Ok(encoded_len(&self.elements) <= (BODY_LIMIT - fixed) as u64)
     }
 }

@@ -1,71 +1,29 @@
 //! Reading the bodies.
 
-ghost use Rattle.std.specs.Prelude.{◌≡◌, ◌↔◌, ◌≤◌, ◌<◌, ◌^◌, ◌+◌, ◌*◌, ◌++◌, Result, IsNone, IfOk, IfErr, IfSome, length};
+ghost use Rattle.std.specs.Prelude.{◌≡◌, ◌≤◌, ◌+◌, ◌*◌, Result, IfOk, IfErr, length};
 ghost use Rattle.wl_elem.specs.declared.fault.Refusal.{Refusal};
-ghost use Rattle.wl_elem.specs.declared.fault.Fault.TheVariants.{Refused};
-ghost use Rattle.wl_elem.specs.Answers.{Answers, AnswersOnly, refusal_at};
+ghost use Rattle.wl_elem.specs.Answers.{Answers, AnswersOnly, IfRefused, moved};
 ghost use Rattle.wl_elem.specs.Element.{body_limit};
 ghost use Rattle.wl_elem.specs.ElementList.{Elems, ElemsRefused};
-ghost use Rattle.wl_elem.specs.Octets.{octets_of};
 ghost use Rattle.wl_assoc.specs.declared.association.AssocAsk.{AssocAsk};
 ghost use Rattle.wl_assoc.specs.declared.association.AssocReply.{AssocReply};
-ghost use Rattle.wl_assoc.specs.Association.{ReadsAsk, ReadsReply, behind};
-ghost use Rattle.wl_assoc.specs.Reading.{IfRefused, with_refusal};
+ghost use Rattle.wl_assoc.specs.Association.{ReadsAsk, ReadsReply};
 
 use crate::association::{AssocAsk, AssocReply};
 use crate::laws::{ask_read_once, reply_read_once};
 use std::alloc::Global;
-use wl_elem::{Elements, Fault, Refusal, Why, decode_elements};
-
-/// The refusal at this place.
-pub fn refused(place: usize, why: Why) -> Fault
-    requires { place < 2 ^ 32 }
-    ensures { result ≡ Refused (refusal_at place why) }
-{
-    Fault::Refused(Refusal {
-        element: None,
-        sub: None,
-        inner: None,
-        place: place as u32,
-        why,
-    })
-}
-
-/// The fault with its place counted from so many octets further in front.
-fn behind(len: usize, fault: Fault) -> Fault
-    requires { IfRefused fault (λ refusal. len + refusal.place < 2 ^ 32) }
-    ensures { result ≡ with_refusal (behind len) fault }
-{
-    match fault {
-        Fault::Refused(refusal) => Fault::Refused(Refusal {
-            place: len as u32 + refusal.place,
-            ..refusal
-        }),
-        Fault::Memory => Fault::Memory,
-    }
-}
-
-/// The number in the first two octets, the lowest octet first, and what follows it.
-pub fn first_number(octets: &[u8]) -> Option<(u16, &[u8])>
-    ensures some { IfSome result (λ x. octets.now ≡ octets_of 2 x.0 ++ x.1.now) }
-    ensures none { IsNone result ↔ (length octets.now < 2) }
-{
-    match octets {
-        [low, high, rest @ ..] => Some((u16::from_le_bytes([*low, *high]), rest)),
-        _ => None,
-    }
-}
+use wl_elem::{Elements, Fault, Why, decode_elements, first_u16};
 
 /// The elements of octets that stand at this place of the input.
 pub fn elements_at(alloc: Global, place: usize, octets: &[u8]) -> Result<Elements, Fault>
     requires { place + length octets.now ≤ body_limit }
     ensures read { IfOk result (λ list. Elems list octets.now) }
     ensures count { IfOk result (λ list. 2 * length list ≤ length octets.now) }
-    ensures refused { IfErr result (λ fault. IfRefused fault (λ refusal. (inside : Refusal) × ElemsRefused octets.now inside × (refusal ≡ behind place inside))) }
+    ensures refused { IfErr result (λ fault. IfRefused fault (λ refusal. (inside : Refusal) × ElemsRefused octets.now inside × (refusal ≡ moved place inside))) }
 {
     match decode_elements(alloc, octets) {
         Ok(elements) => Ok(elements),
-        Err(fault) => Err(behind(place, fault)),
+        Err(fault) => Err(fault.moved(place)),
     }
 }
 
@@ -83,11 +41,11 @@ pub fn decode_ask(alloc: Global, body: &[u8]) -> Result<AssocAsk, Fault>
     ensures count { IfOk result (λ ask. 2 * length ask.elements ≤ length body.now) }
 {
     ask_read_once();
-    let Some((capability, rest)) = first_number(body) else {
-        return Err(refused(0, Why::Truncated));
+    let Some((capability, rest)) = first_u16(body) else {
+        return Err(Fault::at(0, Why::Truncated));
     };
-    let Some((listen, rest)) = first_number(rest) else {
-        return Err(refused(2, Why::Truncated));
+    let Some((listen, rest)) = first_u16(rest) else {
+        return Err(Fault::at(2, Why::Truncated));
     };
     let elements = elements_at(alloc, 4, rest)?;
     Ok(AssocAsk {
@@ -111,14 +69,14 @@ pub fn decode_reply(alloc: Global, body: &[u8]) -> Result<AssocReply, Fault>
     ensures count { IfOk result (λ reply. 2 * length reply.elements ≤ length body.now) }
 {
     reply_read_once();
-    let Some((capability, rest)) = first_number(body) else {
-        return Err(refused(0, Why::Truncated));
+    let Some((capability, rest)) = first_u16(body) else {
+        return Err(Fault::at(0, Why::Truncated));
     };
-    let Some((status, rest)) = first_number(rest) else {
-        return Err(refused(2, Why::Truncated));
+    let Some((status, rest)) = first_u16(rest) else {
+        return Err(Fault::at(2, Why::Truncated));
     };
-    let Some((aid, rest)) = first_number(rest) else {
-        return Err(refused(4, Why::Truncated));
+    let Some((aid, rest)) = first_u16(rest) else {
+        return Err(Fault::at(4, Why::Truncated));
     };
     let elements = elements_at(alloc, 6, rest)?;
     Ok(AssocReply {

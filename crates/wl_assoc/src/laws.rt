@@ -1,14 +1,17 @@
 //! Laws of the definitions, each the contract of a function that does nothing of its own.
 
-ghost use Rattle.std.specs.Prelude.{◌≡◌, ℕ, ◌<◌, List, Result, Ok};
+ghost use Rattle.std.specs.Prelude.{◌≡◌, ℕ, ◌<◌, ◌∷◌, Bool, List, Result, Ok, Err, map};
 ghost use Rattle.std.specs.List.{AllByRecursion};
 ghost use Rattle.wl_elem.specs.declared.fault.Refusal.{Refusal};
+ghost use Rattle.wl_elem.specs.declared.why.Why.TheVariants.{RepeatedLink};
+ghost use Rattle.wl_elem.specs.Element.{ElementValue};
+ghost use Rattle.wl_mle.specs.declared.basic.BasicSub.{BasicSub};
 ghost use Rattle.wl_assoc.specs.declared.association.AssocAsk.{AssocAsk};
 ghost use Rattle.wl_assoc.specs.declared.association.AssocReply.{AssocReply};
 ghost use Rattle.wl_assoc.specs.declared.links.LinkAsk.{LinkAsk};
 ghost use Rattle.wl_assoc.specs.declared.links.LinkState.{LinkState};
 ghost use Rattle.wl_assoc.specs.Association.{AskOf, ReplyOf, ReadsAsk, ReadsReply};
-ghost use Rattle.wl_assoc.specs.Profiles.{AsksAs, StatesAs};
+ghost use Rattle.wl_assoc.specs.Profiles.{AreProfileLinks, AsksAs, IsRepeated, ProfilesAs, StatesAs, repeated_at};
 
 /// The body of a request is read in one way: as one value, or with one refusal, and never both.
 pub fn ask_read_once()
@@ -90,6 +93,8 @@ pub fn asks_or_refused()
         → (reading : Result (List LinkAsk) Refusal) × AsksAs ask reading }
 {
     wl_elem::read_or_refused();
+    wl_elem::bodies_are_octets();
+    wl_elem::items_are_octets();
     wl_mle::read_or_refused();
     wl_inherit::expanded_or_refused();
 }
@@ -100,6 +105,28 @@ pub fn states_or_refused()
         → (reading : Result (List LinkState) Refusal) × StatesAs reply on reading }
 {
     wl_elem::read_or_refused();
+    wl_elem::bodies_are_octets();
+    wl_elem::items_are_octets();
     wl_mle::read_or_refused();
     wl_inherit::expanded_or_refused();
 }
+
+/// What a request says is of the links of its profiles: one entry for each, in their order, and no two
+/// of one link.
+pub fn asks_of_profiles()
+    ensures { (ask : AssocAsk) (asks : List LinkAsk) → AsksAs ask (Ok asks) → AreProfileLinks ask.elements (map (λ a. a.link) asks) }
+{}
+
+/// What a response says is of the link that carries it, and then of those of its profiles, likewise.
+pub fn states_of_profiles()
+    ensures { (reply : AssocReply) (on : ℕ) (states : List LinkState) → StatesAs reply on (Ok states)
+        → (own : LinkState) × (others : List LinkState) × (states ≡ own ∷ others) × (own.link ≡ on) × AreProfileLinks reply.elements (map (λ s. s.link) others) }
+{}
+
+/// Profiles are refused for a repeated link exactly where the first that fails a test has the link of
+/// an earlier one, with its index.
+pub fn repeated_link()
+    ensures refused { (response : Bool) (outer : List ElementValue) (subs : List BasicSub) (sub : ℕ) → IsRepeated response outer subs sub → ProfilesAs response outer subs (Err (repeated_at sub)) }
+    ensures only { (response : Bool) (outer : List ElementValue) (subs : List BasicSub) (refusal : Refusal) → ProfilesAs response outer subs (Err refusal) → refusal.why ≡ RepeatedLink
+        → (sub : ℕ) × IsRepeated response outer subs sub × (refusal ≡ repeated_at sub) }
+{}

@@ -1,21 +1,19 @@
 //! Reading the profiles of the Basic Multi-Link element of a frame.
 
-ghost use Rattle.std.specs.Prelude.{◌≡◌, ◌≢◌, ◌↔◌, ◌<◌, ◌≤◌, ◌^◌, ◌+◌, [], Ok, Err, IsTrue, IfOk, IfErr, IfSome, IsNone, length, take, drop, count_by, position};
+ghost use Rattle.std.specs.Prelude.{◌≡◌, ◌≢◌, ◌↔◌, ◌<◌, ◌≤◌, ◌^◌, Ok, Err, IsTrue, IfOk, IfErr, IfSome, IsNone, length, take, drop, count_by, position};
 ghost use Rattle.std.specs.List.{AllByRecursion};
-ghost use Rattle.wl_elem.specs.Answers.{Answers};
-ghost use Rattle.wl_elem.specs.Element.{body_limit};
+ghost use Rattle.wl_elem.specs.Answers.{Answers, IfRefused};
 ghost use Rattle.wl_elem.specs.Octets.{number};
 ghost use Rattle.wl_mle.specs.declared.multi_link.MultiLink.TheVariants as elements;
-ghost use Rattle.wl_mle.specs.Fields.{width_if};
-ghost use Rattle.wl_mle.specs.Layout.{nstr_width};
 ghost use Rattle.wl_mle.specs.MultiLink.{MlOf, MlRefused};
-ghost use Rattle.wl_assoc.specs.Profiles.{is_basic, IsOnlyBasic, body_place, fixed_len, status_of, entry, ElementsAs, ProfileAs, ProfilesAs, EntriesAs, at_sub, at_element};
-ghost use Rattle.wl_assoc.specs.Reading.{IfRefused, with_refusal, IsRead, IsReadSub};
+ghost use Rattle.wl_assoc.specs.Profiles.{is_basic, IsOnlyBasic, fixed_len, status_of, entry, ElementsAs, ProfileAs, ProfilesAs, EntriesAs};
+ghost use Rattle.wl_assoc.specs.Reading.{IsRead, IsReadSub};
 
-use crate::decode::{elements_at, first_number, refused};
-use crate::looking::look_at_element;
+use crate::decode::elements_at;
 use std::alloc::Global;
-use wl_elem::{Element, Elements, Fault, LinkId, MacAddr, Refusal, Why};
+use wl_elem::{
+    EXTENDED, Element, Elements, Fault, LinkId, MULTI_LINK, MacAddr, Why, first_u16, items_length,
+};
 use wl_inherit::expand;
 use wl_mle::{Basic, BasicSub, MultiLink, Profile, decode_ml};
 
@@ -33,7 +31,7 @@ pub struct LinkEntry {
 pub fn is_basic(element: &Element) -> bool
     ensures { result ≡ is_basic element.now }
 {
-    if !element.has_identity(255, Some(107)) {
+    if !element.has_identity(EXTENDED, Some(MULTI_LINK)) {
         return false;
     }
     match element.body() {
@@ -78,44 +76,12 @@ fn basic_of(alloc: Global, element: &Element) -> Result<Basic, Fault>
     ensures subs { IfOk result (λ b. AllByRecursion IsReadSub b.subs) }
     ensures refused { IfErr result (λ fault. IfRefused fault (λ refusal. MlRefused element.now.body refusal)) }
 {
-    look_at_element(element);
+    element.facts();
+    items_length();
     match decode_ml(alloc, element)? {
         MultiLink::Basic(basic) => Ok(basic),
         _ => unreachable!(),
     }
-}
-
-/// How many octets an NSTR Indication Bitmap takes.
-fn nstr_width(wide: bool) -> usize
-    ensures width { result ≡ nstr_width wide }
-    ensures short { result ≤ 2 }
-{
-    if wide { 2 } else { 1 }
-}
-
-/// How many octets a field of this width takes, where it is there.
-fn len_if(there: bool, width: usize) -> usize
-    ensures len { result ≡ width_if there width }
-    ensures short { result ≤ width }
-{
-    if there { width } else { 0 }
-}
-
-/// Where a profile's body begins in the joined subelement: behind the control word, and the length,
-/// the known fields and the tail of STA Info.
-#[tactic(auto, using(crate::proofs::Places::place_is, crate::proofs::Places::place_within))]
-fn body_place(profile: &Profile) -> usize
-    requires { IsRead profile.now }
-    ensures place { result ≡ body_place profile.now }
-    ensures within { result + length profile.now.body ≤ body_limit }
-{
-    3 + len_if(profile.mac.is_some(), 6)
-        + len_if(profile.beacon.is_some(), 2)
-        + len_if(profile.tsf.is_some(), 8)
-        + len_if(profile.dtim.is_some(), 2)
-        + len_if(profile.nstr.is_some(), nstr_width(profile.wide))
-        + len_if(profile.count.is_some(), 1)
-        + profile.tail.as_slice().len()
 }
 
 /// How many octets the fixed fields of a profile's body take.
@@ -133,11 +99,11 @@ fn fixed_fields(response: bool, body: &[u8]) -> Option<(u16, u16, &[u8])>
     ensures rest { IfSome result (λ x. x.2.now ≡ drop (fixed_len response) body.now) }
     ensures none { IsNone result ↔ (length body.now < fixed_len response) }
 {
-    let (capability, rest) = first_number(body)?;
+    let (capability, rest) = first_u16(body)?;
     if !response {
         return Some((capability, 0, rest));
     }
-    let (status, rest) = first_number(rest)?;
+    let (status, rest) = first_u16(rest)?;
     Some((capability, status, rest))
 }
 
@@ -154,9 +120,9 @@ fn entry_of(
     ensures entry { IfOk result (λ e. e ≡ entry response profile.now e.elements) }
     ensures refused { IfErr result (λ fault. IfRefused fault (λ refusal. ProfileAs response outer.now profile.now (Err refusal))) }
 {
-    let place = body_place(profile);
+    let place = profile.body_place();
     let Some((capability, status, rest)) = fixed_fields(response, profile.body.as_slice()) else {
-        return Err(refused(place, Why::ProfileShort));
+        return Err(Fault::at(place, Why::ProfileShort));
     };
     let own = elements_at(alloc, place + fixed_len(response), rest)?;
     let elements = elements_of(alloc, outer, profile.complete, own)?;
@@ -186,34 +152,6 @@ fn elements_of(
     Ok(own)
 }
 
-/// The fault with this index of a subelement.
-fn with_sub(sub: usize, fault: Fault) -> Fault
-    requires { sub < 2 ^ 32 }
-    ensures { result ≡ with_refusal (at_sub sub) fault }
-{
-    match fault {
-        Fault::Refused(refusal) => Fault::Refused(Refusal {
-            sub: Some(sub as u32),
-            ..refusal
-        }),
-        Fault::Memory => Fault::Memory,
-    }
-}
-
-/// The fault with this index of an element.
-fn with_element(element: usize, fault: Fault) -> Fault
-    requires { element < 2 ^ 32 }
-    ensures { result ≡ with_refusal (at_element element) fault }
-{
-    match fault {
-        Fault::Refused(refusal) => Fault::Refused(Refusal {
-            element: Some(element as u32),
-            ..refusal
-        }),
-        Fault::Memory => Fault::Memory,
-    }
-}
-
 /// What the profiles among some subelements say, within the frame of these elements.
 fn entries_in(
     alloc: Global,
@@ -224,8 +162,8 @@ fn entries_in(
     requires outer { length outer.now < 2 ^ 32 }
     requires count { length subs.now < 2 ^ 32 }
     requires subs { AllByRecursion IsReadSub subs.now }
-    ensures read { IfOk result (λ entries. ProfilesAs response outer.now [] 0 subs.now (Ok entries.items)) }
-    ensures refused { IfErr result (λ fault. IfRefused fault (λ refusal. ProfilesAs response outer.now [] 0 subs.now (Err refusal))) }
+    ensures read { IfOk result (λ entries. ProfilesAs response outer.now subs.now (Ok entries.items)) }
+    ensures refused { IfErr result (λ fault. IfRefused fault (λ refusal. ProfilesAs response outer.now subs.now (Err refusal))) }
 {
     let mut entries = Vec::new(alloc);
     let mut seen = [false; 15];
@@ -235,12 +173,12 @@ fn entries_in(
         };
         let link = profile.link.get() as usize;
         if seen[link] {
-            return Err(with_sub(i, refused(0, Why::RepeatedLink)));
+            return Err(Fault::at(0, Why::RepeatedLink).in_sub(i));
         }
         seen[link] = true;
         match entry_of(alloc, response, outer, profile) {
             Ok(entry) => entries.push(entry)?,
-            Err(fault) => return Err(with_sub(i, fault)),
+            Err(fault) => return Err(fault.in_sub(i)),
         }
     }
     Ok(entries)
@@ -253,14 +191,14 @@ pub fn entries_of(alloc: Global, response: bool, list: &Elements) -> Result<Vec<
     ensures refused { IfErr result (λ fault. IfRefused fault (λ refusal. EntriesAs response list.now (Err refusal))) }
 {
     let Some((i, element)) = only_basic(list) else {
-        return Err(refused(0, Why::NoMultiLink));
+        return Err(Fault::at(0, Why::NoMultiLink));
     };
     let basic = match basic_of(alloc, element) {
         Ok(basic) => basic,
-        Err(fault) => return Err(with_element(i, fault)),
+        Err(fault) => return Err(fault.in_element(i)),
     };
     match entries_in(alloc, response, list, basic.subs.as_slice()) {
         Ok(entries) => Ok(entries),
-        Err(fault) => Err(with_element(i, fault)),
+        Err(fault) => Err(fault.in_element(i)),
     }
 }

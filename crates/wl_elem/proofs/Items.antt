@@ -1,10 +1,13 @@
 -- Lists of items: they are cut in one way, written in one way, and not refused where they are cut.
-use Rattle.std.proofs.Common.{◌≡◌, ◌≢◌, ℕ, ◌<◌, ◌≤◌, Bool, false, List, [], ◌∷◌, ◌++◌, length, refl, sym, ap, subst, ◌∙◌, arith, length-append}
+use Rattle.std.proofs.Common.{◌≡◌, ◌≢◌, ℕ, ◌<◌, ◌≤◌, Bool, false, List, [], ◌∷◌, ◌++◌, length, Option, Some, None, refl, sym, ap, subst, ◌∙◌, arith, length-append}
 use Rattle.std.specs.List.{AllByRecursion}
 use Rattle.std.proofs.lemmas.Bool.{ne_eqb}
 use Rattle.wl_elem.specs.declared.why.Why.{Why}
 use Rattle.wl_elem.specs.declared.kind.ListKind.{ListKind}
+use Rattle.wl_elem.specs.declared.kind.ListKind.TheVariants.{Elements}
 use Rattle.wl_elem.specs.declared.item.Item.{Item}
+use Rattle.wl_elem.specs.Element.{ElementValue, information_of}
+use Rattle.wl_elem.specs.ElementList.{Elems}
 use Rattle.wl_elem.specs.Cutting.{fragment_id, IsCut, joined, fragments, pieces, IsWritten}
 use Rattle.wl_elem.specs.Row.{Piece, IsPiece, IsRow, row_text, full_after, IsCutOff}
 use Rattle.wl_elem.specs.Block.{begins_with_fragment}
@@ -123,3 +126,18 @@ are_octets kind (item ∷ list) octets is (front, rest, split, s, more) =
     let text : IsOctets (pieces kind item.id s.written.parts) = subst (λ (x : List ℕ). IsOctets x) s.written.written (IsOctets-front front rest both) in
     let found = pieces_octets kind item.id s.written.parts s.written.cut text in
     ((found.0, subst (λ (x : List ℕ). IsOctets x) s.written.whole found.1), are_octets kind list rest (IsOctets-back front rest both) more)
+
+-- ---- octets of elements
+
+of_information : (ext : Option ℕ) (body : List ℕ) → IsOctets (information_of ext body) → IsOctets body
+of_information (Some x) body h = h.1
+of_information None body h = h
+
+pub bodies_octets : (list : List ElementValue) (octets : List ℕ) → IsOctets octets → Elems list octets → AllByRecursion (λ e. IsOctets e.body) list
+bodies_octets [] octets is spelled = tt
+bodies_octets (e ∷ list) octets is (front, rest, split, s, more) =
+    let both : IsOctets (front ++ rest) = subst (λ (x : List ℕ). IsOctets x) split is in
+    let w = s.written in
+    let text : IsOctets (pieces Elements e.id w.parts) = subst (λ (x : List ℕ). IsOctets x) w.written (IsOctets-front front rest both) in
+    let found = pieces_octets Elements e.id w.parts w.cut text in
+    (of_information e.ext e.body (subst (λ (x : List ℕ). IsOctets x) w.whole found.1), bodies_octets list rest (IsOctets-back front rest both) more)

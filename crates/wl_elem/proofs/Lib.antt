@@ -1,4 +1,5 @@
 pub mod Octets
+pub mod Numbers
 pub mod Joining
 pub mod Once
 pub mod Items

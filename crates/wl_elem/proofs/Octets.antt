@@ -1,5 +1,5 @@
 -- Lists of octets.
-use Rattle.std.proofs.Common.{ℕ, zero, suc, ◌<◌, List, [], ◌∷◌, ◌++◌, drop}
+use Rattle.std.proofs.Common.{ℕ, zero, suc, ◌<◌, List, [], ◌∷◌, ◌++◌, take, drop}
 use Rattle.std.specs.List.{AllByRecursion}
 
 abbrev pub IsOctets : List ℕ → Type 0
@@ -9,6 +9,11 @@ pub IsOctets-drop : (n : ℕ) (octets : List ℕ) → IsOctets octets → IsOcte
 IsOctets-drop zero octets h = h
 IsOctets-drop (suc n) [] h = tt
 IsOctets-drop (suc n) (b ∷ octets) h = IsOctets-drop n octets h.1
+
+pub IsOctets-take : (n : ℕ) (octets : List ℕ) → IsOctets octets → IsOctets (take n octets)
+IsOctets-take zero octets h = tt
+IsOctets-take (suc n) [] h = tt
+IsOctets-take (suc n) (b ∷ octets) h = (h.0, IsOctets-take n octets h.1)
 
 pub IsOctets-append : (a b : List ℕ) → IsOctets a → IsOctets b → IsOctets (a ++ b)
 IsOctets-append [] b p q = q

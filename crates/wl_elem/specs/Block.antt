@@ -1,5 +1,8 @@
--- For private contracts alone, but for `IsStopped`: one item of a list, its pieces joined.
-use Rattle.std.specs.Prelude.{◌≡◌, ◌≢◌, ℕ, ◌<◌, ◌≤◌, ◌-◌, ◌==◌, Bool, true, false, List, [], ◌∷◌, ◌++◌, length}
+-- For private contracts alone, but for `IsStopped`, `CutAs` and `CutOnly`: one item of a list, its pieces joined.
+use Rattle.std.specs.Global.{Vec}
+use Rattle.std.specs.Prelude.{◌≡◌, ◌≢◌, ℕ, ◌<◌, ◌≤◌, ◌-◌, ◌==◌, Bool, true, false, List, [], ◌∷◌, ◌++◌, length, Result, Ok, Err}
+use Rattle.wl_elem.specs.declared.item.Item.{Item}
+use Rattle.wl_elem.specs.Items.{Items}
 use Rattle.wl_elem.specs.declared.why.Why.{Why}
 use Rattle.wl_elem.specs.declared.kind.ListKind.{ListKind}
 use Rattle.wl_elem.specs.declared.block.Stop.{Stop}
@@ -39,3 +42,15 @@ IsWithin len Memory = Unit {0}
 abbrev pub IsStoppedAs : ℕ → Stop → Fault → Type 0
 IsStoppedAs len (CutOff left why) fault = fault ≡ Refused (refusal_at (len - left) why)
 IsStoppedAs len Memory fault = fault ≡ NoMemory
+
+-- octets cut into items, or cut off at a piece
+abbrev pub CutAs : ListKind → List ℕ → Result (List Item) Stop → Type 0
+CutAs kind octets (Ok list) = Items kind list octets
+CutAs kind octets (Err (CutOff left why)) = IsCutOff kind false octets left why
+CutAs kind octets (Err Memory) = ⊥
+
+-- nothing but this was answered; want of memory says nothing of the octets
+abbrev pub CutOnly : Result (Vec Item) Stop → Result (List Item) Stop → Type 0
+CutOnly (Ok list) cutting = cutting ≡ Ok list.items
+CutOnly (Err (CutOff left why)) cutting = cutting ≡ Err (CutOff left why)
+CutOnly (Err Memory) cutting = Unit {0}

@@ -24,9 +24,17 @@ information_of None body = body
 abbrev pub information : ElementValue → List ℕ
 information e = information_of e.ext e.body
 
+-- the element has the shape of one
+abbrev pub HasShape : ElementValue → Type 0
+HasShape e = IsTrue (has_shape e.id e.ext)
+
 -- at most so many octets are handed in as one body
 abbrev pub body_limit : ℕ
 body_limit = 16777216
+
+-- an MSDU has at most so many octets (IEEE Std 802.11, 9.2.4.8)
+abbrev pub msdu_limit : ℕ
+msdu_limit = 2304
 
 -- what holds of each element
 pub record IsElement (e : ElementValue) : Type 0 where

@@ -22,6 +22,10 @@ HasElementLength e len = (octets : List ℕ) → Spells e octets → length octe
 abbrev pub AddsElement : ElementValue → List ℕ → List ℕ → Type 0
 AddsElement e old new = (octets : List ℕ) × Spells e octets × (new ≡ old ++ octets)
 
+-- new begins with old
+abbrev pub Extends : List ℕ → List ℕ → Type 0
+Extends old new = (more : List ℕ) × (new ≡ old ++ more)
+
 -- new is old with these octets as Fragments behind it, which may follow a full piece
 pub record AddsFragments (kind : ListKind) (octets old new : List ℕ) : Type 0 where
   pub parts : List (List ℕ)

@@ -10,5 +10,7 @@ pub mod Block
 pub mod Encoding
 pub mod Finding
 pub mod Octets
+pub mod Bits
+pub mod Fields
 pub mod Links
 pub mod Lanes

@@ -1,11 +1,16 @@
 //! Cutting a list into its items: the first piece of each and the Fragments that continue it, joined.
 
-ghost use Rattle.std.specs.Prelude.{◌≡◌, ◌<◌, ◌≤◌, ◌*◌, length, IfOk, IfErr};
-ghost use Rattle.wl_elem.specs.Block.{begins_with_fragment, IsTaken, IsStopped};
+ghost use Rattle.std.specs.Prelude.{◌≡◌, ◌<◌, ◌≤◌, ◌*◌, List, Result, length, IfOk, IfErr};
+ghost use Rattle.wl_elem.specs.Block.{begins_with_fragment, IsTaken, IsStopped, IsWithin, IsStoppedAs, CutAs, CutOnly};
+ghost use Rattle.wl_elem.specs.Element.{body_limit};
+ghost use Rattle.wl_elem.specs.declared.item.Item.{Item};
 ghost use Rattle.wl_elem.specs.Items.{Items};
+ghost use Rattle.wl_elem.specs.declared.block.Stop.{Stop};
 ghost use Rattle.wl_elem.specs.declared.block.Stop.TheVariants.{Memory};
 
 use crate::bytes::Bytes;
+use crate::cutting_laws::{cut_off_once, items_not_both, items_read_once};
+use crate::fault::Fault;
 use crate::item::Item;
 use crate::kind::ListKind;
 use crate::piece::first_piece;
@@ -30,6 +35,20 @@ pub enum Stop {
     CutOff { left: usize, why: Why },
     /// There was no memory for the items. It says nothing of the octets.
     Memory,
+}
+
+impl Stop {
+    /// The fault of an input of this length whose reading stopped so.
+    pub fn fault(self, len: usize) -> Fault
+        requires fits { len ≤ body_limit }
+        requires within { IsWithin len self }
+        ensures { IsStoppedAs len self result }
+    {
+        match self {
+            Stop::CutOff { left, why } => Fault::at(len - left, why),
+            Stop::Memory => Fault::Memory,
+        }
+    }
 }
 
 impl From<AllocError> for Stop {
@@ -110,7 +129,11 @@ pub fn cut_items(alloc: Global, kind: ListKind, input: &[u8]) -> Result<Vec<Item
     ensures cut { IfOk result (λ list. Items kind list.items input.now) }
     ensures count { IfOk result (λ list. 2 * length list.items ≤ length input.now) }
     ensures stopped { IfErr result (λ stop. IsStopped kind input.now stop) }
+    ensures only { (cutting : Result (List Item) Stop) → CutAs kind input.now cutting → CutOnly result cutting }
 {
+    items_read_once();
+    items_not_both();
+    cut_off_once();
     let mut list = Vec::new(alloc);
     let mut rest = input;
     'items: while !rest.is_empty() {

@@ -68,6 +68,13 @@ impl Bytes {
         Ok(())
     }
 
+    /// Leaves the first octets, at most so many. It takes no memory.
+    pub fn truncate(&mut self, len: usize)
+        ensures { self.new ≡ take len self.old }
+    {
+        self.octets.truncate(len);
+    }
+
     /// How many octets there are.
     pub fn len(&self) -> u32
         requires { length self.now < 2 ^ 32 }

@@ -5,48 +5,32 @@ ghost use Rattle.wl_elem.specs.declared.fault.Refusal.{Refusal};
 ghost use Rattle.wl_elem.specs.Answers.{Answers, AnswersOnly};
 ghost use Rattle.wl_elem.specs.Element.{ElementValue, information, has_shape, body_limit};
 ghost use Rattle.wl_elem.specs.ElementList.{ReadAs};
-ghost use Rattle.wl_elem.specs.Block.{IsStoppedAs, IsWithin};
+ghost use Rattle.wl_elem.specs.declared.kind.ListKind.TheVariants.{Elements as ElementList};
+ghost use Rattle.wl_elem.specs.Cutting.{fragment_id};
+ghost use Rattle.wl_elem.specs.Row.{is_extended};
 
-use crate::block::{Stop, first_block};
+use crate::block::first_block;
 use crate::bytes::Bytes;
 use crate::element::Element;
 use crate::elements::Elements;
-use crate::fault::{Fault, Refusal};
+use crate::fault::Fault;
 use crate::kind::ListKind;
 use std::alloc::Global;
 
 /// The element of this information: that of ID 255 begins with the extension.
 fn element_of(id: u8, mut octets: Vec<u8>) -> Element
     requires room { length octets.items ≤ body_limit }
-    requires fresh { id ≢ 242 }
-    requires extended { (id == 255) ≡ true → 0 < length octets.items }
+    requires fresh { id ≢ fragment_id ElementList }
+    requires extended { is_extended ElementList id ≡ true → 0 < length octets.items }
     ensures shape { IsTrue (has_shape result.id result.ext) }
     ensures same_id { result.id ≡ id }
     ensures same { information result ≡ octets.items }
 {
-    if id == 255 {
+    if ListKind::Elements.is_extended(id) {
         let ext = octets.remove(0);
         return Element::of_parts(id, Some(ext), Bytes::from_vec(octets));
     }
     Element::of_parts(id, None, Bytes::from_vec(octets))
-}
-
-/// The fault of an input of this length whose reading stopped.
-fn fault_of(len: usize, stop: Stop) -> Fault
-    requires fits { len ≤ body_limit }
-    requires within { IsWithin len stop }
-    ensures { IsStoppedAs len stop result }
-{
-    match stop {
-        Stop::CutOff { left, why } => Fault::Refused(Refusal {
-            element: None,
-            sub: None,
-            inner: None,
-            place: (len - left) as u32,
-            why,
-        }),
-        Stop::Memory => Fault::Memory,
-    }
 }
 
 /// Reads a list of elements, all of the octets.
@@ -68,7 +52,7 @@ pub fn decode_elements(alloc: Global, input: &[u8]) -> Result<Elements, Fault>
     'elements: while !rest.is_empty() {
         let block = match first_block(alloc, ListKind::Elements, rest) {
             Ok(block) => block,
-            Err(stop) => return Err(fault_of(input.len(), stop)),
+            Err(stop) => return Err(stop.fault(input.len())),
         };
         rest = block.rest;
         list.push(element_of(block.id, block.information))?;

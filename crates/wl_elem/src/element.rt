@@ -3,6 +3,8 @@
 ghost use Rattle.std.specs.Prelude.{◌≡◌, ◌↔◌, ◌≤◌, ℕ, Option, Some, length, IsTrue, IsSome, IfSome};
 
 use crate::bytes::Bytes;
+use crate::kind::ListKind;
+use crate::known::{EXTENDED, Known, MULTI_LINK, TID_TO_LINK_MAPPING};
 use std::marker::Model;
 
 /// An element: its ID, its Element ID Extension where the ID is 255, and its body.
@@ -28,6 +30,7 @@ impl Model for Element {
 
 impl Element {
     ghost use Rattle.wl_elem.specs.Element.{ElementValue, has_shape, HasIdentity, body_limit, IsElement};
+    ghost use Rattle.wl_elem.specs.Identity.{HasExtension, extension_of, known_as};
 
     /// The element with these parts. None exactly where the ID is 242, where it is 255 without an
     /// extension, or where it is another with one. The body has at most 16,777,216 octets.
@@ -37,8 +40,8 @@ impl Element {
         ensures parts { IfSome result (λ e. e ≡ (record { id = id; ext = ext; body = body })) }
     {
         let fits = match ext {
-            Some(_) => id == 255,
-            None => id != 242 && id != 255,
+            Some(_) => id == EXTENDED,
+            None => id != ListKind::Elements.fragment_id() && id != EXTENDED,
         };
         if fits {
             Some(Element { id, ext, body })
@@ -70,6 +73,28 @@ impl Element {
         ensures is_element { IsElement self.now }
     {
         self.ext
+    }
+
+    /// Which element it is of those that are decoded where they stand in a list. None where it is
+    /// another.
+    pub fn known(&self) -> Option<Known>
+        ensures kind { result ≡ known_as self.now }
+        ensures identity { IfSome result (λ known. HasExtension self.now (extension_of known)) }
+    {
+        if self.has_identity(EXTENDED, Some(TID_TO_LINK_MAPPING)) {
+            return Some(Known::TidToLinkMapping);
+        }
+        if self.has_identity(EXTENDED, Some(MULTI_LINK)) {
+            return Some(Known::MultiLink);
+        }
+        None
+    }
+
+    /// What is true of every element. It does nothing else.
+    pub fn facts(&self)
+        ensures { IsElement self.now }
+    {
+        let _ = &self.id;
     }
 
     /// Whether the element has this ID and this extension, or none.

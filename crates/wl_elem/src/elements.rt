@@ -7,7 +7,7 @@ use crate::fault::Memory;
 use std::alloc::Global;
 use std::marker::Model;
 
-/// A list of elements, in order.
+/// A list of elements, in order. Each has the shape of one, as its calls say.
 #[derive(Debug, Drop)]
 pub struct Elements {
     list: Vec<Element>,
@@ -15,14 +15,20 @@ pub struct Elements {
 
 impl Model for Elements {
     ghost use Rattle.std.specs.Prelude.{List};
-    ghost use Rattle.wl_elem.specs.Element.{ElementValue};
+    ghost use Rattle.std.specs.List.{AllByRecursion};
+    ghost use Rattle.wl_elem.specs.Element.{ElementValue, HasShape};
 
     ghost Value = { List ElementValue };
 
     ghost view = { λ e. e.list.items };
+
+    ghost invariant = { λ e. AllByRecursion HasShape e.list.items };
 }
 
 impl Elements {
+    ghost use Rattle.std.specs.List.{AllByRecursion};
+    ghost use Rattle.wl_elem.specs.Element.{HasShape};
+
     /// No elements. It takes no memory.
     pub fn new(alloc: Global) -> Elements
         ensures { result ≡ [] }
@@ -37,6 +43,7 @@ impl Elements {
         ensures ok { OnOk result (self.new ≡ self.old ++ e ∷ []) }
         ensures err { OnErr result (self.new ≡ self.old) }
     {
+        e.facts();
         self.list.push(e)?;
         Ok(())
     }
@@ -65,7 +72,8 @@ impl Elements {
 
     /// The elements as a slice.
     pub fn as_slice(&self) -> &[Element]
-        ensures { result.now ≡ self.now }
+        ensures value { result.now ≡ self.now }
+        ensures shapes { AllByRecursion HasShape self.now }
     {
         self.list.as_slice()
     }

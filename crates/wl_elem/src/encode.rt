@@ -1,7 +1,8 @@
 //! Writing element lists.
 
 ghost use Rattle.std.specs.Prelude.{◌≡◌, ◌<◌, ◌≤◌, ◌^◌, ◌+◌, length, OnOk, IfOk};
-ghost use Rattle.wl_elem.specs.Element.{body_limit, information};
+ghost use Rattle.std.specs.List.{AllByRecursion};
+ghost use Rattle.wl_elem.specs.Element.{body_limit, information, HasShape};
 ghost use Rattle.wl_elem.specs.ElementList.{Elems};
 ghost use Rattle.wl_elem.specs.Encoding.{HasLength, HasElementLength, IsWithin, AddsElement};
 
@@ -40,7 +41,8 @@ fn element_len(e: &Element) -> u64
 /// How many octets the list is written in. The list has fewer than 2^32 elements.
 pub fn encoded_len(list: &Elements) -> u64
     requires { length list.now < 2 ^ 32 }
-    ensures { HasLength list.now result }
+    ensures len { HasLength list.now result }
+    ensures shapes { AllByRecursion HasShape list.now }
 {
     let mut sum = 0u64;
     for e in list.as_slice() {

@@ -4,6 +4,7 @@ ghost use Rattle.std.specs.Prelude.{◌≡◌};
 ghost use Rattle.wl_elem.specs.Cutting.{fragment_id};
 ghost use Rattle.wl_elem.specs.Row.{truncated, is_extended};
 
+use crate::known::EXTENDED;
 use crate::why::Why;
 
 /// Which list a piece stands in: its items are cut alike, and differ in the ID of a Fragment.
@@ -31,7 +32,7 @@ impl ListKind {
         ensures { result ≡ is_extended self id }
     {
         match self {
-            ListKind::Elements => id == 255,
+            ListKind::Elements => id == EXTENDED,
             ListKind::Subelements => false,
         }
     }

@@ -31,3 +31,9 @@ pub fn read_what_was_written()
     ensures { (list : List ElementValue) (octets : List ℕ) (reading : Result (List ElementValue) Refusal)
         → Elems list octets → ReadAs octets reading → reading ≡ Ok list }
 {}
+
+/// The elements of octets have bodies of octets.
+pub fn bodies_are_octets()
+    ensures { (list : List ElementValue) (octets : List ℕ) → AllByRecursion (λ octet. octet < 256) octets → Elems list octets
+        → AllByRecursion (λ e. AllByRecursion (λ octet. octet < 256) e.body) list }
+{}

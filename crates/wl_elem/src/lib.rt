@@ -10,12 +10,16 @@ mod element;
 mod elements;
 mod encode;
 mod fault;
+mod fields;
 mod finding;
 mod item;
 mod kind;
+mod known;
 mod lane;
 mod laws;
+mod limits;
 mod link;
+mod list;
 mod piece;
 mod put;
 mod why;
@@ -32,11 +36,21 @@ pub use element::Element;
 pub use elements::Elements;
 pub use encode::{encode_elements, encoded_len};
 pub use fault::{Fault, Memory, Refusal};
+pub use fields::{
+    first_cut, first_mac, first_u16, has_bit, mac_at, mac_if, mac_len, put_mac, put_short, put_u8,
+    put_u16, put_u24, put_u64, short_if, short_len, u8_if, u8_len, u16_at, u16_if, u16_len, u24_if,
+    u24_len, u64_if, u64_len, width_if,
+};
 pub use finding::find;
 pub use item::Item;
 pub use kind::ListKind;
+pub use known::{EXTENDED, Known, MULTI_LINK, NON_INHERITANCE, TID_TO_LINK_MAPPING};
 pub use lane::{Direction, EndId, Lane, Tid};
-pub use laws::{read_once, read_or_refused, read_what_was_written, spelled, spelled_once};
+pub use laws::{
+    bodies_are_octets, read_once, read_or_refused, read_what_was_written, spelled, spelled_once,
+};
+pub use limits::{BODY_LIMIT, MSDU_LIMIT};
 pub use link::{LinkId, LinkSet};
+pub use list::List;
 pub use put::put_item;
 pub use why::Why;

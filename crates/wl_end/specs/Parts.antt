@@ -8,22 +8,19 @@ use Rattle.wl_window.specs.Reordering.{Store}
 use Rattle.wl_history.specs.declared.arrival.Arrival.{Arrival}
 use Rattle.wl_history.specs.declared.hand.Hand.{Hand}
 use Rattle.wl_history.specs.EndState.{LaneState, no_lane}
+use Rattle.wl_elem.specs.Element.{msdu_limit}
 
 -- the hands of threads, and for how many there is memory
 pub record Held : Type 0 where
   pub hands : List Hand
   pub room : ℕ
 
--- an MSDU has at most so many octets
-abbrev pub body_limit : ℕ
-body_limit = 2304
-
 -- a window has at most so many numbers
 abbrev pub window_limit : ℕ
 window_limit = 256
 
 abbrev pub IsShort : List ℕ → Type 0
-IsShort body = length body ≤ body_limit
+IsShort body = length body ≤ msdu_limit
 
 -- What holds of the parts of a lane. Each queued body has room for the mark that it was aired, and
 -- nothing that went up waits between two calls.

@@ -6,7 +6,7 @@ use Rattle.wl_elem.specs.declared.lane.Lane.{Lane}
 use Rattle.wl_elem.specs.Lanes.{lane_index, IsLane}
 use Rattle.wl_frame.specs.Frame.{FrameValue}
 use Rattle.wl_frame.specs.Refusals.{ReadAs}
-use Rattle.wl_frame.specs.Sealing.{Sealing}
+use Rattle.wl_frame.specs.Sealing.{Sealing, IsUnder}
 use Rattle.wl_number.specs.Bookings.{BookedWith}
 use Rattle.wl_history.specs.declared.opened.Opened.{Opened}
 use Rattle.wl_history.specs.declared.outcome.Outcome.{Outcome}
@@ -14,6 +14,7 @@ use Rattle.wl_history.specs.declared.outcome.Outcome.TheVariants as outcomes
 use Rattle.wl_history.specs.declared.start.EndStart.{EndStart}
 use Rattle.wl_history.specs.Plain.{IsPlain}
 use Rattle.wl_history.specs.Hearing.{Closed, Judged, Answered, ToOpen, judged, opened_under, sealed_under, text_of}
+use Rattle.wl_history.specs.Legal.{IsBodyIn}
 use Rattle.wl_history.specs.Words.{body_at}
 use Rattle.wl_history.specs.EndState.{EndState, lane_at}
 use Rattle.wl_end.specs.declared.peeking.Payload.{Payload}
@@ -37,6 +38,8 @@ OpensTo text start c body = text_of text (opened_under start start.end c body) �
 pub record IsOpened (text : Sealing) (start : EndStart) (c : Closed) (four : Opened) (lane : Lane) (number pn : ℕ) : Type 0 where
   pub four_is : four ≡ opened_under start start.end c four.body
   pub opens : OpensTo text start c four.body
+  pub under : IsUnder four.key four.nonce four.aad
+  pub body_is : IsBodyIn c.payload four.body
   pub lane_is : lane ≡ c.lane
   pub number_is : number ≡ c.number
   pub pn_is : pn ≡ c.pn

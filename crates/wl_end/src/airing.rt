@@ -3,6 +3,7 @@
 ghost use Rattle.std.specs.Prelude.{◌≡◌, ◌↔◌, ◌+◌, ◌^◌, ◌<◌, ◌≤◌, ℕ, List, Some, length, IfOk, IsTrue};
 ghost use Rattle.wl_number.specs.NumberObject.{InRange};
 ghost use Rattle.wl_frame.specs.Frame.{IsHeader, IsKind};
+ghost use Rattle.wl_frame.specs.Sealing.{IsUnder};
 ghost use Rattle.wl_history.specs.Ends.{link_at};
 ghost use Rattle.wl_history.specs.Hearing.{kind_of, header_of, octets_of};
 ghost use Rattle.wl_end.specs.Parts.{IsShort};
@@ -12,7 +13,8 @@ use crate::links::{address_on, mld_of};
 use std::alloc::Global;
 use wl_elem::{Bytes, EndId, Lane, LinkId, Memory};
 use wl_frame::{
-    Aad, Header, Key, Kind, Protection, Sealer, aad_of, encode_frame, nonce_of, sealer_is_sealing,
+    Aad, Header, Key, Kind, Protection, Sealer, aad_of, are_octets, can_seal_under, encode_frame,
+    nonce_of, sealer_is_sealing,
 };
 use wl_history::{EndStart, LinkStart, Opened};
 use wl_number::Numbers;
@@ -93,6 +95,7 @@ impl Under {
         ensures key { result.key ≡ (under start.now sender lane.now key pn).key }
         ensures nonce { result.nonce ≡ (under start.now sender lane.now key pn).nonce }
         ensures aad { result.aad ≡ (under start.now sender lane.now key pn).aad }
+        ensures sound { IsUnder result.key result.nonce result.aad }
     {
         let header = nominal(start, sender, lane);
         let receiver_mld = mld_of(start, sender.peer());
@@ -100,11 +103,9 @@ impl Under {
         let aad = aad_of(&header, receiver_mld, sender_mld, mld_of(start, EndId::Ap));
         let nonce = nonce_of(&header, mld_of(start, sender), pn);
         let base = start.key;
-        Under {
-            key: Key { base, number: key },
-            nonce,
-            aad,
-        }
+        let key = Key { base, number: key };
+        can_seal_under(&key, &nonce, &aad);
+        Under { key, nonce, aad }
     }
 
     /// Whether this and a body are what was opened.
@@ -162,6 +163,7 @@ pub(crate) fn frame_octets<Z: Sealer>(
     ensures { IfOk result (λ o. o ≡ octets_of (Z.text z.now) start.now start.now.end (flown flight.now body.now)) }
 {
     sealer_is_sealing(z);
+    are_octets(body);
     let n = &flight.numbers;
     let under = Under::new(start, start.end, &flight.lane, n.key, n.pn);
     let text = z.seal(alloc, &under.key, &under.nonce, &under.aad, body)?;

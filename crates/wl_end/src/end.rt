@@ -18,6 +18,7 @@ ghost use Rattle.wl_history.specs.Answers.{reserve_answer, book_answer};
 ghost use Rattle.wl_history.specs.Ends.{send_size, receive_size, is_set_up};
 ghost use Rattle.wl_history.specs.Plain.{IsPlain, FitsIn};
 ghost use Rattle.wl_history.specs.Words.{at, last_of};
+ghost use Rattle.wl_elem.specs.Element.{msdu_limit};
 
 use crate::airing::{Flight, Under, frame_octets};
 use crate::frames::Frames;
@@ -167,7 +168,7 @@ impl End {
     /// Conditions: the body has 1 to 2,304 octets, and the queue is shorter than 2^32 - 8,192.
     pub fn queue(&mut self, tid: Tid, body: Bytes) -> Result<u32, Memory>
         requires some { 1 ≤ length body }
-        requires limit { length body ≤ 2304 }
+        requires limit { length body ≤ msdu_limit }
         requires room { length (lane_at self.old (lane_index (Lane.Tid tid))).queue < 2 ^ 32 - 8192 }
         ensures pos { IfOk result (λ pos. pos ≡ length (lane_at self.old (lane_index (Lane.Tid tid))).queue) }
         ensures after { OnOk result (self.new ≡ after_queue (lane_index (Lane.Tid tid)) body self.old) }

@@ -13,7 +13,7 @@ use crate::airing::Under;
 use crate::links::{address_on, is_set_up, link_at};
 use std::alloc::Global;
 use wl_elem::{EndId, Lane, LinkId, MacAddr, Memory, Why};
-use wl_frame::{Frame, Header, Kind, Sealer};
+use wl_frame::{Frame, Header, Kind, Sealer, are_octets};
 use wl_history::{EndStart, Opened, Outcome};
 use wl_replay::KeyRing;
 
@@ -183,6 +183,7 @@ fn open<Z: Sealer>(
     match z.unseal(alloc, &under.key, &under.nonce, &under.aad, octets)? {
         None => Ok(Peek::Answered(Outcome::NotOpened)),
         Some(body) => {
+            are_octets(body.as_slice());
             let Under { key, nonce, aad } = under;
             let four = Opened {
                 key,

@@ -1,6 +1,8 @@
 -- A nonce tells its lane and its packet number.
-use Rattle.std.proofs.Common.{◌≡◌, ℕ, ◌+◌, ◌*◌, ◌/◌, ◌%◌, ◌^◌, ◌<◌, List, [], ◌∷◌, ◌++◌, length, drop, get_or, refl, sym, ap, ◌∙◌, arith}
+use Rattle.std.proofs.Common.{◌≡◌, ℕ, ◌+◌, ◌*◌, ◌/◌, ◌%◌, ◌^◌, ◌<◌, cond, eqb, List, [], ◌∷◌, ◌++◌, length, drop, get_or, refl, sym, ap, ◌∙◌, arith}
 use Rattle.std.proofs.Math.Seq.{drop-append_seam}
+use Rattle.std.proofs.lemmas.Bool.{ne_eqb}
+use Rattle.wl_elem.specs.declared.lane.Lane.{Lane}
 use Rattle.wl_elem.specs.declared.lane.Lane.TheVariants as lanes
 use Rattle.wl_frame.specs.declared.header.Kind.{Kind}
 use Rattle.wl_frame.specs.declared.header.Kind.TheVariants.{Qos, Action, AssocAsk, AssocReply}
@@ -31,23 +33,18 @@ same_number kind other a2 pn number six p q e =
 same_flags : (kind other : Kind) (a2 : List ℕ) (pn number : ℕ) → nonce kind a2 pn ≡ nonce other a2 number → nonce_flags kind ≡ nonce_flags other
 same_flags kind other a2 pn number e = ap (λ (octets : List ℕ). get_or octets 0 0) e
 
-pub same_lane : (kind other : Kind) → IsKind kind → IsKind other → nonce_flags kind ≡ nonce_flags other → lane_of kind ≡ lane_of other
-same_lane (Qos to_ap tid rest) (Qos from_ap number left) is other e = ap (λ (n : ℕ). lanes.Tid n) e
-same_lane (Qos to_ap tid rest) Action is other e = let small = is.tid_fits in absurd (omega arith)
-same_lane (Qos to_ap tid rest) AssocAsk is other e = let small = is.tid_fits in absurd (omega arith)
-same_lane (Qos to_ap tid rest) AssocReply is other e = let small = is.tid_fits in absurd (omega arith)
-same_lane Action (Qos from_ap number left) is other e = let small = other.tid_fits in absurd (omega arith)
-same_lane Action Action is other e = refl
-same_lane Action AssocAsk is other e = refl
-same_lane Action AssocReply is other e = refl
-same_lane AssocAsk (Qos from_ap number left) is other e = let small = other.tid_fits in absurd (omega arith)
-same_lane AssocAsk Action is other e = refl
-same_lane AssocAsk AssocAsk is other e = refl
-same_lane AssocAsk AssocReply is other e = refl
-same_lane AssocReply (Qos from_ap number left) is other e = let small = other.tid_fits in absurd (omega arith)
-same_lane AssocReply Action is other e = refl
-same_lane AssocReply AssocAsk is other e = refl
-same_lane AssocReply AssocReply is other e = refl
+-- the lane that the flags octet tells of
+abbrev lane_at : ℕ → Lane
+lane_at n = cond (eqb n 0x10) lanes.Management (lanes.Tid n)
+
+lane_is : (kind : Kind) → IsKind kind → lane_at (nonce_flags kind) ≡ lane_of kind
+lane_is (Qos to_ap tid rest) is = rw (ne_eqb tid 0x10 (λ e. omega (arith, e, is.tid_fits))) refl
+lane_is Action is = refl
+lane_is AssocAsk is = refl
+lane_is AssocReply is = refl
+
+same_lane : (kind other : Kind) → IsKind kind → IsKind other → nonce_flags kind ≡ nonce_flags other → lane_of kind ≡ lane_of other
+same_lane kind other is known e = sym (lane_is kind is) ∙ ap lane_at e ∙ lane_is other known
 
 pub tells_lane : (kind other : Kind) (a2 : List ℕ) (pn number : ℕ) → IsKind kind → IsKind other → length a2 ≡ 6 → pn < 2 ^ 48 → number < 2 ^ 48 → nonce kind a2 pn ≡ nonce other a2 number → (lane_of kind ≡ lane_of other) × (pn ≡ number)
 tells_lane kind other a2 pn number is known six p q e = (same_lane kind other is known (same_flags kind other a2 pn number e), same_number kind other a2 pn number six p q e)

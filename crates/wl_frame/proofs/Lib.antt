@@ -6,3 +6,4 @@ pub mod Spelled
 pub mod Once
 pub mod Again
 pub mod Lanes
+pub mod Sealed

@@ -1,10 +1,10 @@
 -- Octets are read in one way.
 use Rattle.std.proofs.Common.{◌≡◌, ℕ, List, Option, Some, None, Ok, Err, refl}
 use Rattle.wl_elem.specs.declared.fault.Refusal.{Refusal}
+use Rattle.wl_elem.proofs.Octets.{IsOctets}
 use Rattle.wl_frame.specs.Frame.{FrameValue}
 use Rattle.wl_frame.specs.Refusals.{refusal_of, ReadAs}
 use Rattle.wl_frame.specs.Reading.{frame_at, read, reading}
-use Rattle.wl_frame.proofs.Places.{IsOctets}
 use Rattle.wl_frame.proofs.Spelled.{is_frame_of}
 
 pub read_frame : (octets : List ℕ) (f : FrameValue) → refusal_of octets ≡ None → f ≡ frame_at octets → Ok f ≡ reading octets

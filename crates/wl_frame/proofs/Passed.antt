@@ -1,110 +1,64 @@
 -- What octets have that pass all tests.
-use Rattle.std.proofs.Common.{◌≡◌, ℕ, ◌%◌, ◌<◌, ◌≤◌, Bool, true, false, eqb, List, length, get_or, None, refl, sym, ap, ◌∙◌, arith, inl, inr}
-use Rattle.std.specs.Prelude.{◌&&◌, ◌||◌, ◌⊎◌, not}
+use Rattle.std.proofs.Common.{◌≡◌, ℕ, ◌+◌, ◌%◌, Bool, true, false, eqb, List, length, get_or, None, refl, inl, inr}
+use Rattle.std.specs.Prelude.{◌&&◌, ◌||◌, ◌⊎◌, ◌==◌, nat_lt, nat_le, not}
 use Rattle.std.proofs.lemmas.Bool.{eqb-true, ltb-false, leb-false}
-use Rattle.wl_frame.specs.Refusals.{is_data, has_ccmp, has_bit, tests, tests_of, first_holding, refusal_of}
+use Rattle.wl_elem.specs.Bits.{has_bit}
+use Rattle.wl_frame.specs.Refusals.{is_data, is_association, has_ccmp, header_end, tests_of, first_holding, refusal_of}
 use Rattle.wl_frame.specs.Reading.{IsWhole}
 use Rattle.wl_frame.proofs.Table.{all_false}
 
--- ---- the tests of data, of Action and of an association frame, one after the other
-
-pub record DataPassed (octets : List ℕ) (flags sequence qos : ℕ) : Type 0 where
-  pub four : has_bit flags 0x01 && has_bit flags 0x02 ≡ false
-  pub none : has_bit flags 0x01 || has_bit flags 0x02 ≡ true
+-- No test holds. At a first octet that is known each says what it says of that kind.
+pub record Passed (octets : List ℕ) (first flags sequence control : ℕ) : Type 0 where
+  pub long : nat_lt (length octets) 24 ≡ false
+  pub version : not (first % 4 == 0) ≡ false
+  pub known : not (has_ccmp first || is_association first) ≡ false
+  pub four : is_data first && (has_bit flags 0x01 && has_bit flags 0x02) ≡ false
+  pub none : is_data first && not (has_bit flags 0x01 || has_bit flags 0x02) ≡ false
+  pub directed : not (is_data first) && (has_bit flags 0x01 || has_bit flags 0x02) ≡ false
   pub fragments : has_bit flags 0x04 ≡ false
-  pub protected : has_bit flags 0x40 ≡ true
+  pub protected : has_ccmp first && not (has_bit flags 0x40) ≡ false
+  pub setup : is_association first && has_bit flags 0x40 ≡ false
   pub order : has_bit flags 0x80 ≡ false
-  pub fragment : sequence % 16 ≡ 0
-  pub tid : qos % 16 < 8
-  pub amsdu : has_bit qos 0x80 ≡ false
-  pub long : 34 ≤ length octets
-  pub extended : has_bit (get_or octets 29 0) 0x20 ≡ true
+  pub fragment : not (sequence % 16 == 0) ≡ false
+  pub qos : is_data first && nat_lt (length octets) 26 ≡ false
+  pub tid : is_data first && nat_le 8 (control % 16) ≡ false
+  pub amsdu : is_data first && has_bit control 0x80 ≡ false
+  pub sealed : has_ccmp first && nat_lt (length octets) (header_end first + 8) ≡ false
+  pub extended : has_ccmp first && not (has_bit (get_or octets (header_end first + 3) 0) 0x20) ≡ false
 
-pub record ActionPassed (octets : List ℕ) (flags sequence : ℕ) : Type 0 where
-  pub directed : has_bit flags 0x01 || has_bit flags 0x02 ≡ false
-  pub fragments : has_bit flags 0x04 ≡ false
-  pub protected : has_bit flags 0x40 ≡ true
-  pub order : has_bit flags 0x80 ≡ false
-  pub fragment : sequence % 16 ≡ 0
-  pub long : 32 ≤ length octets
-  pub extended : has_bit (get_or octets 27 0) 0x20 ≡ true
+pub is_passed : (octets : List ℕ) (first flags sequence control : ℕ) → first_holding (tests_of octets first flags sequence control) ≡ None → Passed octets first flags sequence control
+is_passed octets first flags sequence control e =
+    let all = all_false (tests_of octets first flags sequence control) e in
+    let four = all.1.1.1 in
+    let flagged = four.1.1.1 in
+    let behind = flagged.1.1.1.1 in
+    let sealed = behind.1.1.1.1 in
+    record {
+      long = all.0;
+      version = all.1.0;
+      known = all.1.1.0;
+      four = four.0;
+      none = four.1.0;
+      directed = four.1.1.0;
+      fragments = flagged.0;
+      protected = flagged.1.0;
+      setup = flagged.1.1.0;
+      order = flagged.1.1.1.0;
+      fragment = behind.0;
+      qos = behind.1.0;
+      tid = behind.1.1.0;
+      amsdu = behind.1.1.1.0;
+      sealed = sealed.0;
+      extended = sealed.1.0;
+    }
 
-pub record SetupPassed (octets : List ℕ) (flags sequence : ℕ) : Type 0 where
-  pub directed : has_bit flags 0x01 || has_bit flags 0x02 ≡ false
-  pub fragments : has_bit flags 0x04 ≡ false
-  pub protected : has_bit flags 0x40 ≡ false
-  pub order : has_bit flags 0x80 ≡ false
-  pub fragment : sequence % 16 ≡ 0
-  pub long : 24 ≤ length octets
+pub passed_none : (octets : List ℕ) (first flags sequence control : ℕ) → Passed octets first flags sequence control → first_holding (tests_of octets first flags sequence control) ≡ None
+passed_none octets first flags sequence control p =
+    rw (p.long, p.version, p.known, p.four, p.none, p.directed, p.fragments, p.protected, p.setup, p.order, p.fragment, p.qos, p.tid, p.amsdu, p.sealed, p.extended) refl
 
-is_not : (b : Bool) → not b ≡ false → b ≡ true
+pub is_not : (b : Bool) → not b ≡ false → b ≡ true
 is_not true e = refl
 is_not false e = absurd (cc)
-
-data_passed : (octets : List ℕ) (flags sequence qos : ℕ) → first_holding (tests_of octets 0x88 flags sequence qos) ≡ None → DataPassed octets flags sequence qos
-data_passed octets flags sequence qos e =
-    let all = all_false (tests_of octets 0x88 flags sequence qos) e in
-    let four = all.1.1.1 in
-    let flagged = four.1.1.1 in
-    let behind = flagged.1.1.1.1 in
-    let sealed = behind.1.1.1.1 in
-    record {
-      four = four.0;
-      none = is_not _ four.1.0;
-      fragments = flagged.0;
-      protected = is_not _ flagged.1.0;
-      order = flagged.1.1.1.0;
-      fragment = eqb-true _ _ (is_not _ behind.0);
-      tid = leb-false _ _ behind.1.1.0;
-      amsdu = behind.1.1.1.0;
-      long = ltb-false _ _ sealed.0;
-      extended = is_not _ sealed.1.0;
-    }
-
-action_passed : (octets : List ℕ) (flags sequence qos : ℕ) → first_holding (tests_of octets 0xd0 flags sequence qos) ≡ None → ActionPassed octets flags sequence
-action_passed octets flags sequence qos e =
-    let all = all_false (tests_of octets 0xd0 flags sequence qos) e in
-    let four = all.1.1.1 in
-    let flagged = four.1.1.1 in
-    let behind = flagged.1.1.1.1 in
-    let sealed = behind.1.1.1.1 in
-    record {
-      directed = four.1.1.0;
-      fragments = flagged.0;
-      protected = is_not _ flagged.1.0;
-      order = flagged.1.1.1.0;
-      fragment = eqb-true _ _ (is_not _ behind.0);
-      long = ltb-false _ _ sealed.0;
-      extended = is_not _ sealed.1.0;
-    }
-
-ask_passed : (octets : List ℕ) (flags sequence qos : ℕ) → first_holding (tests_of octets 0x00 flags sequence qos) ≡ None → SetupPassed octets flags sequence
-ask_passed octets flags sequence qos e =
-    let all = all_false (tests_of octets 0x00 flags sequence qos) e in
-    let four = all.1.1.1 in
-    let flagged = four.1.1.1 in
-    record {
-      directed = four.1.1.0;
-      fragments = flagged.0;
-      protected = flagged.1.1.0;
-      order = flagged.1.1.1.0;
-      fragment = eqb-true _ _ (is_not _ flagged.1.1.1.1.0);
-      long = ltb-false _ _ all.0;
-    }
-
-reply_passed : (octets : List ℕ) (flags sequence qos : ℕ) → first_holding (tests_of octets 0x10 flags sequence qos) ≡ None → SetupPassed octets flags sequence
-reply_passed octets flags sequence qos e =
-    let all = all_false (tests_of octets 0x10 flags sequence qos) e in
-    let four = all.1.1.1 in
-    let flagged = four.1.1.1 in
-    record {
-      directed = four.1.1.0;
-      fragments = flagged.0;
-      protected = flagged.1.1.0;
-      order = flagged.1.1.1.0;
-      fragment = eqb-true _ _ (is_not _ flagged.1.1.1.1.0);
-      long = ltb-false _ _ all.0;
-    }
 
 -- ---- the kinds
 
@@ -118,46 +72,19 @@ known_of first false false true d ea eb ec ed e = inr (inr (inl (eqb-true _ _ ec
 known_of first false false false true ea eb ec ed e = inr (inr (inr (eqb-true _ _ ed)))
 known_of first false false false false ea eb ec ed e = absurd (cc)
 
-pub is_known : (octets : List ℕ) → refusal_of octets ≡ None → IsKnown (get_or octets 0 0)
-unfolding refusal_of
-is_known octets e = known_of (get_or octets 0 0) _ _ _ _ refl refl refl refl (all_false (tests octets) e).1.1.0
+pub is_known : (first : ℕ) → not (has_ccmp first || is_association first) ≡ false → IsKnown first
+is_known first e = known_of first _ _ _ _ refl refl refl refl e
 
 -- the tests of octets with this first octet
-pub at_first : (octets : List ℕ) (first : ℕ) → get_or octets 0 0 ≡ first → refusal_of octets ≡ first_holding (tests_of octets first (get_or octets 1 0) (get_or octets 22 0) (get_or octets 24 0))
+pub passed_at : (octets : List ℕ) (first : ℕ) → get_or octets 0 0 ≡ first → refusal_of octets ≡ None → Passed octets first (get_or octets 1 0) (get_or octets 22 0) (get_or octets 24 0)
 unfolding refusal_of
-at_first octets first e = rw e refl
+passed_at octets first same e = is_passed octets first (get_or octets 1 0) (get_or octets 22 0) (get_or octets 24 0) (rw same at e)
 
-pub is_data_passed : (octets : List ℕ) → get_or octets 0 0 ≡ 0x88 → refusal_of octets ≡ None → DataPassed octets (get_or octets 1 0) (get_or octets 22 0) (get_or octets 24 0)
-is_data_passed octets first e = data_passed octets (get_or octets 1 0) (get_or octets 22 0) (get_or octets 24 0) (sym (at_first octets 0x88 first) ∙ e)
-
-pub is_action_passed : (octets : List ℕ) → get_or octets 0 0 ≡ 0xd0 → refusal_of octets ≡ None → ActionPassed octets (get_or octets 1 0) (get_or octets 22 0)
-is_action_passed octets first e = action_passed octets (get_or octets 1 0) (get_or octets 22 0) (get_or octets 24 0) (sym (at_first octets 0xd0 first) ∙ e)
-
-pub is_ask_passed : (octets : List ℕ) → get_or octets 0 0 ≡ 0x00 → refusal_of octets ≡ None → SetupPassed octets (get_or octets 1 0) (get_or octets 22 0)
-is_ask_passed octets first e = ask_passed octets (get_or octets 1 0) (get_or octets 22 0) (get_or octets 24 0) (sym (at_first octets 0x00 first) ∙ e)
-
-pub is_reply_passed : (octets : List ℕ) → get_or octets 0 0 ≡ 0x10 → refusal_of octets ≡ None → SetupPassed octets (get_or octets 1 0) (get_or octets 22 0)
-is_reply_passed octets first e = reply_passed octets (get_or octets 1 0) (get_or octets 22 0) (get_or octets 24 0) (sym (at_first octets 0x10 first) ∙ e)
-
-not_data : (first octet : ℕ) → first ≡ octet → is_data octet ≡ false → is_data first ≡ true → ⊥
-not_data first octet same e h = cc (ap is_data same)
-
-not_sealed : (first octet : ℕ) → first ≡ octet → has_ccmp octet ≡ false → has_ccmp first ≡ true → ⊥
-not_sealed first octet same e h = cc (ap has_ccmp same)
-
-whole_at : (octets : List ℕ) → IsKnown (get_or octets 0 0) → refusal_of octets ≡ None → IsWhole octets
-whole_at octets (inl first) e =
-    let p = is_data_passed octets first e in
-    record { long = omega (arith, p.long); qos = λ _. omega (arith, p.long); tid = λ _. p.tid; ccmp = λ _. rw first p.long }
-whole_at octets (inr (inl first)) e =
-    let p = is_action_passed octets first e in
-    record { long = omega (arith, p.long); qos = λ h. absurd (not_data _ _ first refl h); tid = λ h. absurd (not_data _ _ first refl h); ccmp = λ _. rw first p.long }
-whole_at octets (inr (inr (inl first))) e =
-    let p = is_ask_passed octets first e in
-    record { long = p.long; qos = λ h. absurd (not_data _ _ first refl h); tid = λ h. absurd (not_data _ _ first refl h); ccmp = λ h. absurd (not_sealed _ _ first refl h) }
-whole_at octets (inr (inr (inr first))) e =
-    let p = is_reply_passed octets first e in
-    record { long = p.long; qos = λ h. absurd (not_data _ _ first refl h); tid = λ h. absurd (not_data _ _ first refl h); ccmp = λ h. absurd (not_sealed _ _ first refl h) }
+other : (b c : Bool) → b && c ≡ false → b ≡ true → c ≡ false
+other true c e h = e
+other false c e h = absurd (cc)
 
 pub is_whole : (octets : List ℕ) → refusal_of octets ≡ None → IsWhole octets
-is_whole octets e = whole_at octets (is_known octets e) e
+is_whole octets e =
+    let p = passed_at octets (get_or octets 0 0) refl e in
+    record { long = ltb-false _ _ p.long; qos = λ h. ltb-false _ _ (other _ _ p.qos h); tid = λ h. leb-false _ _ (other _ _ p.tid h); ccmp = λ h. ltb-false _ _ (other _ _ p.sealed h) }

@@ -1,18 +1,9 @@
 -- Octets and their places, bits and words.
-use Rattle.std.proofs.Common.{◌≡◌, ℕ, zero, suc, ◌/◌, ◌%◌, ◌<◌, ◌≤◌, Bool, true, false, eqb, List, [], ◌∷◌, ◌++◌, length, take, drop, get_or, refl, sym, ap, ◌∙◌, arith}
-use Rattle.std.specs.List.{AllByRecursion}
+use Rattle.std.proofs.Common.{◌≡◌, ℕ, zero, suc, ◌/◌, ◌%◌, ◌≤◌, Bool, List, [], ◌∷◌, ◌++◌, length, take, drop, get_or, refl, sym, ap, ◌∙◌, arith}
 use Rattle.std.proofs.Math.Seq.{take-append_seam}
 use Rattle.std.proofs.lemmas.List.{append-nil, drop_all}
-use Rattle.wl_frame.specs.Frame.{bit}
-use Rattle.wl_frame.specs.Refusals.{has_bit}
-
-abbrev pub IsOctets : List ℕ → Type 0
-IsOctets octets = AllByRecursion (λ octet. octet < 256) octets
-
-pub octet_below : (octets : List ℕ) (i : ℕ) → IsOctets octets → get_or octets i 0 < 256
-octet_below [] i is = omega arith
-octet_below (b ∷ octets) zero is = is.0
-octet_below (b ∷ octets) (suc i) is = octet_below octets i is.1
+use Rattle.wl_elem.specs.Bits.{bit, has_bit}
+use Rattle.wl_elem.proofs.Numbers.{bit_is}
 
 -- the octets at so many places from one on
 abbrev pub cells : ℕ → ℕ → List ℕ → List ℕ
@@ -53,22 +44,5 @@ three a b c x y z rest e f g sx sy sz = same_parts (cells 6 0 x) (cells 6 0 y) (
 
 -- ---- bits
 
-pub bit_of : (n : ℕ) → n < 2 → bit (eqb n 1) ≡ n
-bit_of zero lt = refl
-bit_of (suc zero) lt = refl
-bit_of (suc (suc n)) lt = absurd (omega arith)
-
-pub test_of : (n : ℕ) (b : Bool) → n ≡ bit b → eqb n 1 ≡ b
-test_of n true e = rw e refl
-test_of n false e = rw e refl
-
-pub bit_small : (b : Bool) → bit b < 2
-bit_small true = omega arith
-bit_small false = omega arith
-
--- the value of a bit
-pub bit_value : (octet place : ℕ) → bit (has_bit octet place) ≡ octet / place % 2
-bit_value octet place = bit_of (octet / place % 2) (omega arith)
-
 pub value_of_bit : (octet place : ℕ) (b : Bool) → has_bit octet place ≡ b → octet / place % 2 ≡ bit b
-value_of_bit octet place b e = sym (bit_value octet place) ∙ ap bit e
+value_of_bit octet place b e = sym (bit_is octet place) ∙ ap bit e

@@ -1,16 +1,21 @@
 -- Octets that pass all tests are the spelling of the frame that is made of them.
 use Rattle.std.proofs.Common.{◌≡◌, ℕ, ◌+◌, ◌*◌, ◌/◌, ◌%◌, ◌^◌, ◌<◌, Bool, true, false, List, [], ◌∷◌, ◌++◌, drop, get_or, Option, Some, None, refl, sym, ap, ◌∙◌, arith, inl, inr}
 use Rattle.std.specs.Prelude.{◌&&◌, ◌||◌}
+use Rattle.std.proofs.lemmas.Bool.{eqb-true, ltb-false, leb-false}
+use Rattle.wl_elem.specs.Bits.{bit, has_bit}
+use Rattle.wl_elem.specs.Fields.{word_at, address_at}
 use Rattle.wl_elem.specs.Octets.{octets_of}
+use Rattle.wl_elem.proofs.Octets.{IsOctets}
+use Rattle.wl_elem.proofs.Numbers.{octets_of-number, bit_is, octet_below}
 use Rattle.wl_frame.specs.declared.header.Kind.{Kind}
 use Rattle.wl_frame.specs.declared.header.Kind.TheVariants.{Qos, Action, AssocAsk, AssocReply}
 use Rattle.wl_frame.specs.declared.header.Header.{Header}
 use Rattle.wl_frame.specs.declared.header.Protection.{Protection}
-use Rattle.wl_frame.specs.Frame.{FrameValue, FrameOf, IsHeader, IsKind, IsProtection, bit, direction_bits, ccmp_header}
-use Rattle.wl_frame.specs.Refusals.{has_bit, refusal_of}
-use Rattle.wl_frame.specs.Reading.{word_at, address_at, ccmp_at, frame_at}
-use Rattle.wl_frame.proofs.Places.{IsOctets, octet_below, in_cells, bit_value, value_of_bit}
-use Rattle.wl_frame.proofs.Passed.{DataPassed, ActionPassed, SetupPassed, is_known, IsKnown, is_data_passed, is_action_passed, is_ask_passed, is_reply_passed}
+use Rattle.wl_frame.specs.Frame.{FrameValue, FrameOf, IsHeader, IsKind, IsProtection, direction_bits, ccmp_header}
+use Rattle.wl_frame.specs.Refusals.{refusal_of}
+use Rattle.wl_frame.specs.Reading.{ccmp_at, frame_at}
+use Rattle.wl_frame.proofs.Places.{in_cells, value_of_bit}
+use Rattle.wl_frame.proofs.Passed.{Passed, passed_at, is_not, is_known, IsKnown}
 
 -- ---- words, flags and the CCMP header
 
@@ -18,10 +23,7 @@ abbrev two : List ℕ → ℕ → List ℕ
 two octets place = get_or octets place 0 ∷ get_or octets (place + 1) 0 ∷ []
 
 word_again : (low high : ℕ) → low < 256 → high < 256 → octets_of 2 (low + 256 * high) ≡ low ∷ high ∷ []
-word_again low high a b =
-    let first : (low + 256 * high) % 256 ≡ low = omega arith in
-    let next : (low + 256 * high) / 256 % 256 ≡ high = omega arith in
-    rw (first, next) refl
+word_again low high a b = let same : low + 256 * high ≡ low + 256 * (high + 256 * 0) = omega arith in ap (octets_of 2) same ∙ octets_of-number (low ∷ high ∷ []) (a, (b, tt))
 
 -- the sequence control, where the fragment number is 0
 sequence_again : (low high : ℕ) → low < 256 → high < 256 → low % 16 ≡ 0 → octets_of 2 (16 * ((low + 256 * high) / 16)) ≡ low ∷ high ∷ []
@@ -35,15 +37,15 @@ qos_again low high a b =
     ap (octets_of 2) same ∙ word_again low high a b
 
 -- the octet of these flags
-abbrev flag_octet : ℕ → Bool → Bool → Bool → Bool → ℕ
+abbrev pub flag_octet : ℕ → Bool → Bool → Bool → Bool → ℕ
 flag_octet direction retry power more protected = direction + 0x08 * bit retry + 0x10 * bit power + 0x20 * bit more + 0x40 * bit protected
 
 flags_again : (octet direction : ℕ) (protected : Bool) → octet < 256 → direction ≡ octet % 4 → has_bit octet 0x04 ≡ false → has_bit octet 0x40 ≡ protected → has_bit octet 0x80 ≡ false
     → flag_octet direction (has_bit octet 0x08) (has_bit octet 0x10) (has_bit octet 0x20) protected ≡ octet
 flags_again octet direction protected small directed fragments sealed order =
-    let a : bit (has_bit octet 0x08) ≡ octet / 8 % 2 = bit_value octet 8 in
-    let b : bit (has_bit octet 0x10) ≡ octet / 16 % 2 = bit_value octet 16 in
-    let c : bit (has_bit octet 0x20) ≡ octet / 32 % 2 = bit_value octet 32 in
+    let a : bit (has_bit octet 0x08) ≡ octet / 8 % 2 = bit_is octet 8 in
+    let b : bit (has_bit octet 0x10) ≡ octet / 16 % 2 = bit_is octet 16 in
+    let c : bit (has_bit octet 0x20) ≡ octet / 32 % 2 = bit_is octet 32 in
     let d : octet / 64 % 2 ≡ bit protected = value_of_bit octet 64 protected sealed in
     let e : octet / 4 % 2 ≡ 0 = value_of_bit octet 4 false fragments in
     let f : octet / 128 % 2 ≡ 0 = value_of_bit octet 128 false order in
@@ -62,8 +64,8 @@ no_direction false false e = refl
 
 two_bits : (octet : ℕ) → bit (has_bit octet 0x01) + 2 * bit (has_bit octet 0x02) ≡ octet % 4
 two_bits octet =
-    let a : bit (has_bit octet 0x01) ≡ octet / 1 % 2 = bit_value octet 1 in
-    let b : bit (has_bit octet 0x02) ≡ octet / 2 % 2 = bit_value octet 2 in
+    let a : bit (has_bit octet 0x01) ≡ octet / 1 % 2 = bit_is octet 1 in
+    let b : bit (has_bit octet 0x02) ≡ octet / 2 % 2 = bit_is octet 2 in
     rw (a, b) (omega arith)
 
 -- the eight octets of the CCMP header
@@ -79,13 +81,8 @@ pn_low a b n sa sb =
 
 pn_high : (a b c d : ℕ) → a < 256 → b < 256 → c < 256 → d < 256 → octets_of 4 (a + 256 * b + 65536 * (c + 256 * d)) ≡ a ∷ b ∷ c ∷ d ∷ []
 pn_high a b c d sa sb sc sd =
-    let n = a + 256 * b + 65536 * (c + 256 * d) in
-    let e0 : n % 256 ≡ a = omega arith in
-    let e1 : n / 256 % 256 ≡ b = omega arith in
-    let e2 : n / 256 / 256 ≡ c + 256 * d = omega arith in
-    let e3 : (c + 256 * d) % 256 ≡ c = omega arith in
-    let e4 : (c + 256 * d) / 256 % 256 ≡ d = omega arith in
-    rw (e0, e1, e2, e3, e4) refl
+    let same : a + 256 * b + 65536 * (c + 256 * d) ≡ a + 256 * (b + 256 * (c + 256 * (d + 256 * 0))) = omega arith in
+    ap (octets_of 4) same ∙ octets_of-number (a ∷ b ∷ c ∷ d ∷ []) (sa, (sb, (sc, (sd, tt))))
 
 pn_cut : (a b n : ℕ) → a < 256 → b < 256 → (a + 256 * b + 65536 * n) / 2 ^ 16 ≡ n
 pn_cut a b n sa sb = omega arith
@@ -163,60 +160,60 @@ duration_again octets is = word_again (at octets 2) (at octets 3) (octet_below o
 number_again : (octets : List ℕ) → IsOctets octets → at octets 22 % 16 ≡ 0 → octets_of 2 (16 * (word_at octets 22 / 16)) ≡ two octets 22
 number_again octets is whole = sequence_again (at octets 22) (at octets 23) (octet_below octets 22 is) (octet_below octets 23 is) whole
 
-data_of : (octets : List ℕ) → IsOctets octets → DataPassed octets (at octets 1) (at octets 22) (at octets 24) → at octets 0 ≡ 0x88
+data_of : (octets : List ℕ) → IsOctets octets → Passed octets 0x88 (at octets 1) (at octets 22) (at octets 24) → at octets 0 ≡ 0x88
     → FrameOf (frame_of (Qos (has_bit (at octets 1) 0x01) (at octets 24 % 16) (word_at octets 24 / 16 * 16)) (Some (ccmp_at octets 26)) 34 octets) octets
 data_of octets is p first =
     let kind = Qos (has_bit (at octets 1) 0x01) (at octets 24 % 16) (word_at octets 24 / 16 * 16) in
     let a = octet_below octets 24 is in
     let b = octet_below octets 25 is in
     let amsdu : at octets 24 / 128 % 2 ≡ 0 = value_of_bit (at octets 24) 128 false p.amsdu in
-    let directed : direction_bits kind ≡ at octets 1 % 4 = bits_of_direction _ _ (at octets 24 % 16) (word_at octets 24 / 16 * 16) p.four p.none ∙ two_bits (at octets 1) in
-    let flagged = flags_again (at octets 1) (direction_bits kind) true (octet_below octets 1 is) directed p.fragments p.protected p.order in
+    let directed : direction_bits kind ≡ at octets 1 % 4 = bits_of_direction _ _ (at octets 24 % 16) (word_at octets 24 / 16 * 16) p.four (is_not _ p.none) ∙ two_bits (at octets 1) in
+    let flagged = flags_again (at octets 1) (direction_bits kind) true (octet_below octets 1 is) directed p.fragments (is_not _ p.protected) p.order in
     record {
       is_frame = record {
-        header = is_header kind octets is (record { tid_fits = p.tid; rest_fits = omega (arith, a, b); no_tid = omega arith; no_amsdu = omega (arith, a, b, amsdu) });
+        header = is_header kind octets is (record { tid_fits = leb-false _ _ p.tid; rest_fits = omega (arith, a, b); no_tid = omega arith; no_amsdu = omega (arith, a, b, amsdu) });
         protected = refl;
         protection = is_protection octets 26 is;
       };
-      text = in_cells 34 octets p.long ∙ assembled (at octets 0) 0x88 (at octets 1) _ (two octets 2) _ (address_at octets 4) (address_at octets 10) (address_at octets 16) (two octets 22) _ (two octets 24) _ (eight octets 26) _ (drop 34 octets)
-          first flagged (duration_again octets is) (number_again octets is p.fragment) (qos_again (at octets 24) (at octets 25) a b) (ccmp_again octets 26 is p.extended);
+      text = in_cells 34 octets (ltb-false _ _ p.sealed) ∙ assembled (at octets 0) 0x88 (at octets 1) _ (two octets 2) _ (address_at octets 4) (address_at octets 10) (address_at octets 16) (two octets 22) _ (two octets 24) _ (eight octets 26) _ (drop 34 octets)
+          first flagged (duration_again octets is) (number_again octets is (eqb-true _ _ (is_not _ p.fragment))) (qos_again (at octets 24) (at octets 25) a b) (ccmp_again octets 26 is (is_not _ p.extended));
     }
 
-action_of : (octets : List ℕ) → IsOctets octets → ActionPassed octets (at octets 1) (at octets 22) → at octets 0 ≡ 0xd0 → FrameOf (frame_of Action (Some (ccmp_at octets 24)) 32 octets) octets
+action_of : (octets : List ℕ) → IsOctets octets → Passed octets 0xd0 (at octets 1) (at octets 22) (at octets 24) → at octets 0 ≡ 0xd0 → FrameOf (frame_of Action (Some (ccmp_at octets 24)) 32 octets) octets
 action_of octets is p first =
     let directed : 0 ≡ at octets 1 % 4 = sym (no_direction _ _ p.directed) ∙ two_bits (at octets 1) in
-    let flagged = flags_again (at octets 1) 0 true (octet_below octets 1 is) directed p.fragments p.protected p.order in
+    let flagged = flags_again (at octets 1) 0 true (octet_below octets 1 is) directed p.fragments (is_not _ p.protected) p.order in
     record {
       is_frame = record { header = is_header Action octets is tt; protected = refl; protection = is_protection octets 24 is };
-      text = in_cells 32 octets p.long ∙ assembled (at octets 0) 0xd0 (at octets 1) _ (two octets 2) _ (address_at octets 4) (address_at octets 10) (address_at octets 16) (two octets 22) _ [] [] (eight octets 24) _ (drop 32 octets)
-          first flagged (duration_again octets is) (number_again octets is p.fragment) refl (ccmp_again octets 24 is p.extended);
+      text = in_cells 32 octets (ltb-false _ _ p.sealed) ∙ assembled (at octets 0) 0xd0 (at octets 1) _ (two octets 2) _ (address_at octets 4) (address_at octets 10) (address_at octets 16) (two octets 22) _ [] [] (eight octets 24) _ (drop 32 octets)
+          first flagged (duration_again octets is) (number_again octets is (eqb-true _ _ (is_not _ p.fragment))) refl (ccmp_again octets 24 is (is_not _ p.extended));
     }
 
-ask_of : (octets : List ℕ) → IsOctets octets → SetupPassed octets (at octets 1) (at octets 22) → at octets 0 ≡ 0x00 → FrameOf (frame_of AssocAsk None 24 octets) octets
+ask_of : (octets : List ℕ) → IsOctets octets → Passed octets 0x00 (at octets 1) (at octets 22) (at octets 24) → at octets 0 ≡ 0x00 → FrameOf (frame_of AssocAsk None 24 octets) octets
 ask_of octets is p first =
     let directed : 0 ≡ at octets 1 % 4 = sym (no_direction _ _ p.directed) ∙ two_bits (at octets 1) in
-    let flagged = flags_again (at octets 1) 0 false (octet_below octets 1 is) directed p.fragments p.protected p.order in
+    let flagged = flags_again (at octets 1) 0 false (octet_below octets 1 is) directed p.fragments p.setup p.order in
     record {
       is_frame = record { header = is_header AssocAsk octets is tt; protected = refl; protection = tt };
-      text = in_cells 24 octets p.long ∙ assembled (at octets 0) 0x00 (at octets 1) _ (two octets 2) _ (address_at octets 4) (address_at octets 10) (address_at octets 16) (two octets 22) _ [] [] [] [] (drop 24 octets)
-          first flagged (duration_again octets is) (number_again octets is p.fragment) refl refl;
+      text = in_cells 24 octets (ltb-false _ _ p.long) ∙ assembled (at octets 0) 0x00 (at octets 1) _ (two octets 2) _ (address_at octets 4) (address_at octets 10) (address_at octets 16) (two octets 22) _ [] [] [] [] (drop 24 octets)
+          first flagged (duration_again octets is) (number_again octets is (eqb-true _ _ (is_not _ p.fragment))) refl refl;
     }
 
-reply_of : (octets : List ℕ) → IsOctets octets → SetupPassed octets (at octets 1) (at octets 22) → at octets 0 ≡ 0x10 → FrameOf (frame_of AssocReply None 24 octets) octets
+reply_of : (octets : List ℕ) → IsOctets octets → Passed octets 0x10 (at octets 1) (at octets 22) (at octets 24) → at octets 0 ≡ 0x10 → FrameOf (frame_of AssocReply None 24 octets) octets
 reply_of octets is p first =
     let directed : 0 ≡ at octets 1 % 4 = sym (no_direction _ _ p.directed) ∙ two_bits (at octets 1) in
-    let flagged = flags_again (at octets 1) 0 false (octet_below octets 1 is) directed p.fragments p.protected p.order in
+    let flagged = flags_again (at octets 1) 0 false (octet_below octets 1 is) directed p.fragments p.setup p.order in
     record {
       is_frame = record { header = is_header AssocReply octets is tt; protected = refl; protection = tt };
-      text = in_cells 24 octets p.long ∙ assembled (at octets 0) 0x10 (at octets 1) _ (two octets 2) _ (address_at octets 4) (address_at octets 10) (address_at octets 16) (two octets 22) _ [] [] [] [] (drop 24 octets)
-          first flagged (duration_again octets is) (number_again octets is p.fragment) refl refl;
+      text = in_cells 24 octets (ltb-false _ _ p.long) ∙ assembled (at octets 0) 0x10 (at octets 1) _ (two octets 2) _ (address_at octets 4) (address_at octets 10) (address_at octets 16) (two octets 22) _ [] [] [] [] (drop 24 octets)
+          first flagged (duration_again octets is) (number_again octets is (eqb-true _ _ (is_not _ p.fragment))) refl refl;
     }
 
 frame_by : (octets : List ℕ) → IsOctets octets → IsKnown (at octets 0) → refusal_of octets ≡ None → FrameOf (frame_at octets) octets
-frame_by octets is (inl first) e = let of = data_of octets is (is_data_passed octets first e) first in rw first of
-frame_by octets is (inr (inl first)) e = let of = action_of octets is (is_action_passed octets first e) first in rw first of
-frame_by octets is (inr (inr (inl first))) e = let of = ask_of octets is (is_ask_passed octets first e) first in rw first of
-frame_by octets is (inr (inr (inr first))) e = let of = reply_of octets is (is_reply_passed octets first e) first in rw first of
+frame_by octets is (inl first) e = let of = data_of octets is (passed_at octets 0x88 first e) first in rw first of
+frame_by octets is (inr (inl first)) e = let of = action_of octets is (passed_at octets 0xd0 first e) first in rw first of
+frame_by octets is (inr (inr (inl first))) e = let of = ask_of octets is (passed_at octets 0x00 first e) first in rw first of
+frame_by octets is (inr (inr (inr first))) e = let of = reply_of octets is (passed_at octets 0x10 first e) first in rw first of
 
 pub is_frame_of : (octets : List ℕ) → IsOctets octets → refusal_of octets ≡ None → FrameOf (frame_at octets) octets
-is_frame_of octets is e = frame_by octets is (is_known octets e) e
+is_frame_of octets is e = frame_by octets is (is_known (at octets 0) (passed_at octets (at octets 0) refl e).known) e

@@ -27,7 +27,3 @@ all_false [] e = tt
 all_false (t ∷ tests) e =
     let two = none_of_two t.holds (refusal_at t.place t.why) (first_holding tests) e in
     (two.0, all_false tests two.1)
-
-pub none_holding : (tests : List Test) → AllByRecursion (λ t. t.holds ≡ false) tests → first_holding tests ≡ None
-none_holding [] all = refl
-none_holding (t ∷ tests) all = rw all.0 (none_holding tests all.1)

@@ -15,6 +15,8 @@
 -- Key octet: reserved B0 to B4, extended IV B5, key ID B6 and B7. Numbers have their lowest octet
 -- first.
 use Rattle.std.specs.Prelude.{◌≡◌, ℕ, ◌+◌, ◌*◌, ◌/◌, ◌%◌, ◌<◌, ◌≤◌, ◌^◌, Bool, true, false, is_some, List, [], ◌∷◌, ◌++◌, length, Option, Some, None, IfSome}
+use Rattle.wl_elem.specs.Bits.{bit}
+use Rattle.wl_elem.specs.Element.{body_limit}
 use Rattle.wl_elem.specs.Octets.{octets_of}
 use Rattle.wl_frame.specs.declared.header.Kind.{Kind}
 use Rattle.wl_frame.specs.declared.header.Kind.TheVariants.{Qos, Action, AssocAsk, AssocReply}
@@ -28,11 +30,6 @@ pub record FrameValue : Type 0 where
 
 abbrev pub frame_value : Header → Option Protection → List ℕ → FrameValue
 frame_value header protection payload = record { header = header; protection = protection; payload = payload }
-
--- a flag as a bit
-abbrev pub bit : Bool → ℕ
-bit true = 1
-bit false = 0
 
 -- data and Action frames are protected, association frames aren't
 abbrev pub is_protected : Kind → Bool
@@ -118,4 +115,4 @@ pub record FrameOf (f : FrameValue) (octets : List ℕ) : Type 0 where
 
 -- some octets, at most 16,777,216, are this frame's
 abbrev pub IsWritable : FrameValue → Type 0
-IsWritable f = (octets : List ℕ) × (length octets ≤ 16777216) × FrameOf f octets
+IsWritable f = (octets : List ℕ) × (length octets ≤ body_limit) × FrameOf f octets

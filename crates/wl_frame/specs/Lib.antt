@@ -1,7 +1,6 @@
 pub mod Frame
 pub mod Refusals
 pub mod Reading
-pub mod Fitting
 pub mod Aad
 pub mod Padding
 pub mod Nonce

@@ -11,6 +11,8 @@ pub record IsPadded (octets : List ℕ) (len : ℕ) : Type 0 where
 abbrev pub padded : List ℕ → List ℕ
 padded octets = octets ++ replicate (24 - length octets) 0
 
+-- ---- it comes back from its octets; what an `impl` gives as a proof stands in `specs/`
+
 pub length_back : (octets : List ℕ) (len : ℕ) → IsPadded octets len → length (take len octets) ≡ len
 length_back octets len is = elim is.lens [ inl e ↦ length-take-le len octets (omega (arith, is.full)) | inr e ↦ length-take-le len octets (omega (arith, is.full)) ]
 

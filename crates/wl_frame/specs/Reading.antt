@@ -1,15 +1,17 @@
--- For private contracts alone, but for `value`: the tests in groups, and the fields at their
--- places.
-use Rattle.std.specs.Prelude.{◌≡◌, ◌<◌, ◌≤◌, ℕ, ◌+◌, ◌*◌, ◌/◌, ◌%◌, ◌==◌, nat_lt, nat_le, not, ◌&&◌, ◌||◌, if◌then◌else◌, Bool, true, false, List, [], ◌∷◌, ◌++◌, length, drop, slice_index, Option, Some, None, Result, Ok, Err}
+-- For private contracts alone, but for `value`: the tests in groups, the fields at their places, and
+-- what a protection and the fields take.
+use Rattle.std.specs.Prelude.{◌≡◌, ◌<◌, ◌≤◌, ℕ, ◌+◌, ◌*◌, ◌/◌, ◌%◌, ◌==◌, nat_lt, nat_le, not, ◌&&◌, ◌||◌, if◌then◌else◌, Bool, true, false, is_some, List, [], ◌∷◌, ◌++◌, length, drop, slice_index, Option, Some, None, Result, Ok, Err, IfSome}
 use Rattle.wl_elem.specs.declared.fault.Refusal.{Refusal}
 use Rattle.wl_elem.specs.declared.why.Why.TheVariants.{Short, Version, TypeLeftOut, FourAddress, NoDs, DsInManagement, Fragmented, NotProtected, ProtectedSetup, Order, TidLeftOut, Amsdu, NoExtIv}
+use Rattle.wl_elem.specs.Bits.{has_bit}
+use Rattle.wl_elem.specs.Fields.{word_at, address_at}
 use Rattle.wl_frame.specs.declared.header.Kind.{Kind}
 use Rattle.wl_frame.specs.declared.header.Kind.TheVariants.{Qos, Action, AssocAsk, AssocReply}
 use Rattle.wl_frame.specs.declared.header.Header.{Header}
 use Rattle.wl_frame.specs.declared.header.Protection.{Protection}
 use Rattle.wl_frame.specs.declared.header.Frame.{Frame}
-use Rattle.wl_frame.specs.Frame.{FrameValue}
-use Rattle.wl_frame.specs.Refusals.{Test, test, has_bit, is_data, is_association, has_ccmp, header_end, refusal_of}
+use Rattle.wl_frame.specs.Frame.{FrameValue, is_protected, IsProtection}
+use Rattle.wl_frame.specs.Refusals.{Test, test, is_data, is_association, has_ccmp, header_end, refusal_of}
 
 -- the frame with its payload at its value
 abbrev pub value : Frame → FrameValue
@@ -64,13 +66,6 @@ abbrev pub control_tests : ℕ → ℕ → List Test
 control_tests first flags = type_tests first ++ (direction_tests (is_data first) (has_bit flags 0x01) (has_bit flags 0x02) ++ flag_tests (has_ccmp first) (is_association first) flags)
 
 -- ---- the fields
-
-abbrev pub word_at : List ℕ → ℕ → ℕ
-word_at octets place = slice_index octets place + 256 * slice_index octets (place + 1)
-
-abbrev pub address_at : List ℕ → ℕ → List ℕ
-address_at octets place = slice_index octets place ∷ slice_index octets (place + 1) ∷ slice_index octets (place + 2)
-    ∷ slice_index octets (place + 3) ∷ slice_index octets (place + 4) ∷ slice_index octets (place + 5) ∷ []
 
 abbrev pub kind_at : List ℕ → Kind
 kind_at octets =
@@ -129,3 +124,17 @@ pub record IsWhole (octets : List ℕ) : Type 0 where
   pub qos : is_data (slice_index octets 0) ≡ true → 26 ≤ length octets
   pub tid : is_data (slice_index octets 0) ≡ true → slice_index octets 24 % 16 < 8
   pub ccmp : has_ccmp (slice_index octets 0) ≡ true → header_end (slice_index octets 0) + 8 ≤ length octets
+
+-- ---- the tests of a frame
+
+-- the header, and the CCMP header where there is one
+abbrev pub fields_len : Kind → ℕ
+fields_len (Qos to_ap tid rest) = 34
+fields_len Action = 32
+fields_len AssocAsk = 24
+fields_len AssocReply = 24
+
+-- the protection of a frame of this kind
+pub record Protects (kind : Kind) (protection : Option Protection) : Type 0 where
+  pub there : is_some protection ≡ is_protected kind
+  pub fits : IfSome protection IsProtection

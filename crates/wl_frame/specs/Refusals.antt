@@ -1,9 +1,10 @@
 -- Why octets aren't a frame that is taken: the first test of the table that holds.
-use Rattle.std.specs.Prelude.{◌≡◌, ℕ, ◌+◌, ◌/◌, ◌%◌, ◌==◌, nat_lt, nat_le, not, ◌&&◌, ◌||◌, if◌then◌else◌, Bool, List, [], ◌∷◌, length, slice_index, Option, Some, None, Result, Ok, Err}
+use Rattle.std.specs.Prelude.{◌≡◌, ℕ, ◌+◌, ◌%◌, ◌==◌, nat_lt, nat_le, not, ◌&&◌, ◌||◌, if◌then◌else◌, Bool, List, [], ◌∷◌, length, slice_index, Option, Some, None, Result, Ok, Err}
 use Rattle.wl_elem.specs.declared.fault.Refusal.{Refusal}
 use Rattle.wl_elem.specs.declared.why.Why.{Why}
 use Rattle.wl_elem.specs.declared.why.Why.TheVariants.{Short, Version, TypeLeftOut, FourAddress, NoDs, DsInManagement, Fragmented, NotProtected, ProtectedSetup, Order, TidLeftOut, Amsdu, NoExtIv}
 use Rattle.wl_elem.specs.Answers.{refusal_at}
+use Rattle.wl_elem.specs.Bits.{has_bit}
 use Rattle.wl_frame.specs.Frame.{FrameValue, FrameOf}
 
 -- a test, with the refusal of octets that it holds for
@@ -14,9 +15,6 @@ pub record Test : Type 0 where
 
 abbrev pub test : Bool → ℕ → Why → Test
 test holds place why = record { holds = holds; place = place; why = why }
-
-abbrev pub has_bit : ℕ → ℕ → Bool
-has_bit octet place = octet / place % 2 == 1
 
 -- what the first octet says, where the version is 0
 abbrev pub is_data : ℕ → Bool

@@ -8,7 +8,7 @@ ghost use Rattle.wl_frame.specs.Reading.{answer, reading};
 
 use crate::fields::frame_at;
 use crate::header::Frame;
-use crate::refusing::test_frame;
+use crate::refusal::test_frame;
 use wl_elem::Refusal;
 
 /// The frame of octets that pass all tests.

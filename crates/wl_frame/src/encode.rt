@@ -6,7 +6,7 @@ ghost use Rattle.wl_frame.specs.Frame.{FrameOf, IsWritable, IsHeader, IsKind, Is
 use crate::header::{Header, Kind, Protection};
 use crate::octets::{ACTION, ASSOC_ASK, ASSOC_REPLY, QOS_DATA};
 use std::alloc::Global;
-use wl_elem::{Bytes, Memory};
+use wl_elem::{Bytes, Memory, put_mac, put_u16};
 
 /// The first octet of a frame of this kind.
 fn first_octet(kind: &Kind) -> u8
@@ -49,7 +49,7 @@ fn put_qos(out: &mut Bytes, kind: &Kind) -> Result<(), Memory>
     ensures { OnOk result (out.new ≡ out.old ++ qos_control kind.now) }
 {
     match kind {
-        Kind::Qos { tid, rest, .. } => out.extend(&(u16::from(tid.get()) + *rest).to_le_bytes()),
+        Kind::Qos { tid, rest, .. } => put_u16(out, Some(u16::from(tid.get()) + *rest)),
         Kind::Action | Kind::AssocAsk | Kind::AssocReply => Ok(()),
     }
 }
@@ -76,12 +76,11 @@ fn put_header(out: &mut Bytes, header: &Header) -> Result<(), Memory>
 {
     out.push(first_octet(&header.kind))?;
     out.push(flags(header))?;
-    out.extend(&header.duration.to_le_bytes())?;
-    out.extend(&header.a1.octets())?;
-    out.extend(&header.a2.octets())?;
-    out.extend(&header.a3.octets())?;
-    out.extend(&(16 * header.number).to_le_bytes())?;
-    Ok(())
+    put_u16(out, Some(header.duration))?;
+    put_mac(out, Some(header.a1))?;
+    put_mac(out, Some(header.a2))?;
+    put_mac(out, Some(header.a3))?;
+    put_u16(out, Some(16 * header.number))
 }
 
 /// The one spelling of this frame, which is well formed: `Frame::well_formed` says true of it. A

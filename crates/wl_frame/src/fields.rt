@@ -5,10 +5,8 @@ ghost use Rattle.wl_frame.specs.Refusals.{header_end};
 ghost use Rattle.wl_frame.specs.Reading.{IsWhole, kind_at, header_at, ccmp_at, protection_at, payload_start, frame_at, value};
 
 use crate::header::{Frame, Header, Kind, Protection};
-use crate::octets::{
-    ACTION, ASSOC_ASK, QOS_DATA, address_at, has_bit, has_ccmp, header_end, word_at,
-};
-use wl_elem::Tid;
+use crate::octets::{ACTION, ASSOC_ASK, QOS_DATA, has_ccmp, header_end};
+use wl_elem::{Tid, has_bit, mac_at, u16_at};
 
 /// The kind, with the fields of data.
 fn kind_at(octets: &[u8]) -> Kind
@@ -17,8 +15,8 @@ fn kind_at(octets: &[u8]) -> Kind
 {
     match octets[0] {
         QOS_DATA => {
-            let to_ap = has_bit(octets[1], 0x01);
-            let rest = word_at(octets, 24) / 16 * 16;
+            let to_ap = has_bit(u16::from(octets[1]), 0x01);
+            let rest = u16_at(octets, 24) / 16 * 16;
             match Tid::new(octets[24] % 16) {
                 Some(tid) => Kind::Qos { to_ap, tid, rest },
                 None => unreachable!(),
@@ -35,17 +33,17 @@ fn header_at(octets: &[u8]) -> Header
     requires { IsWhole octets.now }
     ensures { result ≡ header_at octets.now }
 {
-    let flags = octets[1];
+    let flags = u16::from(octets[1]);
     Header {
         kind: kind_at(octets),
         retry: has_bit(flags, 0x08),
         power: has_bit(flags, 0x10),
         more: has_bit(flags, 0x20),
-        duration: word_at(octets, 2),
-        a1: address_at(octets, 4),
-        a2: address_at(octets, 10),
-        a3: address_at(octets, 16),
-        number: word_at(octets, 22) / 16,
+        duration: u16_at(octets, 2),
+        a1: mac_at(octets, 4),
+        a2: mac_at(octets, 10),
+        a3: mac_at(octets, 16),
+        number: u16_at(octets, 22) / 16,
     }
 }
 
@@ -55,9 +53,9 @@ fn ccmp_at(octets: &[u8], place: usize) -> Protection
     ensures { result ≡ ccmp_at octets.now place }
 {
     let key = octets[place + 3];
-    let low = u64::from(word_at(octets, place));
-    let middle = u64::from(word_at(octets, place + 4));
-    let high = u64::from(word_at(octets, place + 6));
+    let low = u64::from(u16_at(octets, place));
+    let middle = u64::from(u16_at(octets, place + 4));
+    let high = u64::from(u16_at(octets, place + 6));
     Protection {
         key_id: key / 64,
         pn: low + 65_536 * (middle + 65_536 * high),

@@ -1,7 +1,7 @@
 //! Frames and their headers.
 
-use crate::fitting::{fields_len, header_fits, protects};
-use wl_elem::{MacAddr, Memory, Tid};
+use crate::well_formed::{fields_len, header_fits, protects};
+use wl_elem::{BODY_LIMIT, MacAddr, Memory, Tid};
 
 /// Which frame it is: its type and subtype, and what only data has.
 #[derive(Clone, Copy, Debug, PartialEq, Eq)]
@@ -100,7 +100,7 @@ impl Frame<'_> {
         ensures exact { IfOk result (λ answer. IsTrue answer ↔ IsWritable (value self.now)) }
     {
         let kind = &self.header.kind;
-        let room = 16_777_216 - fields_len(kind);
+        let room = BODY_LIMIT - fields_len(kind);
         Ok(
             header_fits(self.header)
                 && protects(kind, &self.protection)

@@ -5,15 +5,15 @@ mod aad;
 mod decode;
 mod encode;
 mod fields;
-mod fitting;
 mod header;
 mod key;
 mod laws;
 mod nonce;
 mod octets;
-mod refusing;
+mod refusal;
 mod sealer;
 mod stand_in;
+mod well_formed;
 
 pub use aad::{Aad, aad_of};
 pub use decode::decode_frame;
@@ -24,5 +24,5 @@ pub use laws::{
     aad_len, nonce_once, nonce_tells_lane, read_once, read_or_refused, round_trip, spelled_once,
 };
 pub use nonce::nonce_of;
-pub use sealer::{Sealer, sealer_is_sealing};
+pub use sealer::{Sealer, are_octets, can_seal_under, sealer_is_sealing};
 pub use stand_in::StandIn;

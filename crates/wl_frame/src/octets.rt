@@ -1,10 +1,7 @@
-//! Octets, bits and fields of a frame.
+//! First octets, and what they say.
 
-ghost use Rattle.std.specs.Prelude.{◌≡◌, ◌+◌, ◌<◌, ◌≤◌, length};
-ghost use Rattle.wl_frame.specs.Refusals.{has_bit, is_data, is_association, has_ccmp, header_end};
-ghost use Rattle.wl_frame.specs.Reading.{word_at, address_at};
-
-use wl_elem::MacAddr;
+ghost use Rattle.std.specs.Prelude.{◌≡◌, ◌≤◌};
+ghost use Rattle.wl_frame.specs.Refusals.{is_data, is_association, has_ccmp, header_end};
 
 /// The first octet of QoS Data.
 pub const QOS_DATA: u8 = 0x88;
@@ -14,14 +11,6 @@ pub const ACTION: u8 = 0xd0;
 pub const ASSOC_ASK: u8 = 0x00;
 /// The first octet of an Association Response.
 pub const ASSOC_REPLY: u8 = 0x10;
-
-/// Whether an octet has this bit.
-pub fn has_bit(octet: u8, place: u8) -> bool
-    requires { 0 < place }
-    ensures { result ≡ has_bit octet place }
-{
-    octet / place % 2 == 1
-}
 
 /// Whether it is the first octet of data.
 pub fn is_data(first: u8) -> bool
@@ -51,27 +40,4 @@ pub fn header_end(first: u8) -> usize
     ensures least { 24 ≤ result }
 {
     if first == QOS_DATA { 26 } else { 24 }
-}
-
-/// The number of two octets at this place.
-pub fn word_at(octets: &[u8], place: usize) -> u16
-    requires { place + 2 ≤ length octets.now }
-    ensures { result ≡ word_at octets.now place }
-{
-    u16::from_le_bytes([octets[place], octets[place + 1]])
-}
-
-/// The address at this place.
-pub fn address_at(octets: &[u8], place: usize) -> MacAddr
-    requires { place + 6 ≤ length octets.now }
-    ensures { result ≡ address_at octets.now place }
-{
-    MacAddr::new([
-        octets[place],
-        octets[place + 1],
-        octets[place + 2],
-        octets[place + 3],
-        octets[place + 4],
-        octets[place + 5],
-    ])
 }

@@ -85,7 +85,7 @@ impl Sealer for StandIn {
         Ok(Some(body))
     }
 
-    ghost one_body = { λ _ key nonce aad body other e. stand_in_one_body key nonce aad body other e };
+    ghost one_body = { λ _ key nonce aad body other can too e. stand_in_one_body key nonce aad body other e };
 
-    ghost longer = { λ _ key nonce aad body. stand_in_longer key nonce aad body };
+    ghost longer = { λ _ key nonce aad body can. stand_in_longer key nonce aad body };
 }

@@ -8,7 +8,7 @@ use Rattle.wl_elem.specs.declared.lane.Lane.TheVariants as lanes
 use Rattle.wl_elem.specs.Lanes.{peer_of, lane_index, IsLane}
 use Rattle.wl_frame.specs.Frame.{FrameValue}
 use Rattle.wl_frame.specs.Refusals.{ReadAs}
-use Rattle.wl_frame.specs.Sealing.{Sealing}
+use Rattle.wl_frame.specs.Sealing.{Sealing, IsOctets}
 use Rattle.std.specs.List.{Contains}
 use Rattle.wl_number.specs.declared.numbers.Numbers.{Numbers}
 use Rattle.wl_number.specs.OrderRule.{list_of}
@@ -28,6 +28,7 @@ use Rattle.wl_history.specs.Hands.{hand_of}
 use Rattle.wl_history.specs.Words.{queued, body_at, hands, numbers, booked, acks, nth_of, sending, Airing, airings, airings_on, was_aired, receiving}
 use Rattle.wl_history.specs.Answers.{reserve_answer, book_answer, put_answer, receive_answer, ack_out_answer, ack_in_answer}
 use Rattle.wl_history.specs.Hearing.{octets_of, Closed, Judged, Answered, ToOpen, judged, opened_under, sealed_under, text_of, booking_of}
+use Rattle.wl_elem.specs.Element.{msdu_limit}
 
 -- the end that acts
 abbrev pub actor : Command → EndId
@@ -91,11 +92,16 @@ abbrev pub IsUnbooked : EndStart → EndId → List Step → Opened → Type 0
 IsUnbooked start sender before opened =
     (lane : Lane) (n : Numbers) → IsLane lane → Contains (list_of (booked sender before) lane) n → sealed_under start sender lane n (body_at (queued sender (lane_index lane) before) n.pos) ≢ opened
 
+-- what a payload may open to: octets, and no more of them than it has itself
+pub record IsBodyIn (payload body : List ℕ) : Type 0 where
+  pub octets : IsOctets body
+  pub shorter : length body ≤ length payload
+
 -- a payload opens to what its sender never booked
 abbrev pub ForgedAs : Sealing → EndStart → EndId → List Step → Judged → Opened → Type 0
 ForgedAs text start e before (Answered outcome) opened = ⊥
 ForgedAs text start e before (ToOpen c) opened =
-    (opened ≡ opened_under start e c opened.body) × (text_of text opened ≡ c.payload) × IsUnbooked start (peer_of e) before opened
+    (opened ≡ opened_under start e c opened.body) × (text_of text opened ≡ c.payload) × IsBodyIn c.payload opened.body × IsUnbooked start (peer_of e) before opened
 
 abbrev pub ForgedIf : Sealing → EndStart → EndId → List Step → ℕ → Option Airing → Opened → Type 0
 ForgedIf text start e before link None opened = ⊥
@@ -109,7 +115,7 @@ IsForged text start before other opened = ⊥
 
 -- the members of a command are those of a scenario with this start
 abbrev pub Fits : Start → Command → Type 0
-Fits start (commands.Queue end tid body) = (tid < 8) × (1 ≤ length body) × (length body ≤ 2304)
+Fits start (commands.Queue end tid body) = (tid < 8) × (1 ≤ length body) × (length body ≤ msdu_limit)
 Fits start (commands.Reserve end lane) = IsLane lane
 Fits start (commands.Put end link) = is_link (start_of start end) link ≡ true
 Fits start (commands.Deliver end link nth) = is_link (start_of start end) link ≡ true

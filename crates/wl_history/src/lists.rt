@@ -4,7 +4,7 @@ ghost use Rattle.std.specs.Prelude.{◌≡◌, ◌++◌, ◌∷◌, ◌≤◌, [
 
 use std::alloc::Global;
 use std::marker::Model;
-use wl_elem::Memory;
+use wl_elem::{List, Memory};
 
 /// Positions in a lane's queue, in the order in which they were released.
 #[derive(Debug, Drop)]
@@ -94,32 +94,4 @@ impl PositionsRoom {
 }
 
 /// Sequence numbers below 4,096, in window order.
-#[derive(Debug, Drop)]
-pub struct SequenceNumbers {
-    list: Vec<u16>,
-}
-
-impl Model for SequenceNumbers {
-    ghost use Rattle.std.specs.Prelude.{List, ℕ};
-
-    ghost Value = { List ℕ };
-
-    ghost view = { λ n. n.list.items };
-}
-
-impl SequenceNumbers {
-    /// A copy of these numbers.
-    pub fn from_slice(alloc: Global, numbers: &[u16]) -> Result<SequenceNumbers, Memory>
-        ensures { IfOk result (λ n. n ≡ numbers.now) }
-    {
-        let list = Vec::from_slice(alloc, numbers)?;
-        Ok(SequenceNumbers { list })
-    }
-
-    /// The numbers as a slice.
-    pub fn as_slice(&self) -> &[u16]
-        ensures { result.now ≡ self.now }
-    {
-        self.list.as_slice()
-    }
-}
+pub type SequenceNumbers = List<u16>;

@@ -1,10 +1,9 @@
 //! What two ends start with.
 
-ghost use Rattle.std.specs.Prelude.{◌≡◌, ◌++◌, ◌∷◌, [], OnOk, OnErr, IfOk, IfSome};
+ghost use Rattle.std.specs.Prelude.{◌≡◌, IfOk, IfSome};
 
 use std::alloc::Global;
-use std::marker::Model;
-use wl_elem::{EndId, LinkId, LinkSet, MacAddr, Memory};
+use wl_elem::{EndId, LinkId, LinkSet, List, MacAddr, Memory};
 
 /// A link, with its two addresses (IEEE Std 802.11be, 35.3).
 #[derive(Clone, Copy, Debug, PartialEq, Eq)]
@@ -18,56 +17,7 @@ pub struct LinkStart {
 }
 
 /// The links, in ascending order of their IDs.
-#[derive(Debug, Drop)]
-pub struct LinkStarts {
-    list: Vec<LinkStart>,
-}
-
-impl Model for LinkStarts {
-    ghost use Rattle.std.specs.Prelude.{List};
-    ghost use Rattle.wl_history.specs.declared.start.LinkStart.{LinkStart};
-
-    ghost Value = { List LinkStart };
-
-    ghost view = { λ l. l.list.items };
-}
-
-impl LinkStarts {
-    /// No links. It takes no memory.
-    pub fn new(alloc: Global) -> LinkStarts
-        ensures { result ≡ [] }
-    {
-        LinkStarts {
-            list: Vec::new(alloc),
-        }
-    }
-
-    /// Adds a link at the end. After `Memory` the list is as it was.
-    pub fn push(&mut self, link: LinkStart) -> Result<(), Memory>
-        ensures ok { OnOk result (self.new ≡ self.old ++ link ∷ []) }
-        ensures err { OnErr result (self.new ≡ self.old) }
-    {
-        self.list.push(link)?;
-        Ok(())
-    }
-
-    /// The links as a slice.
-    pub fn as_slice(&self) -> &[LinkStart]
-        ensures { result.now ≡ self.now }
-    {
-        self.list.as_slice()
-    }
-}
-
-impl LinkStarts {
-    /// The same links again.
-    pub fn copy(&self, alloc: Global) -> Result<LinkStarts, Memory>
-        ensures { IfOk result (λ l. l ≡ self.now) }
-    {
-        let list = Vec::from_slice(alloc, self.list.as_slice())?;
-        Ok(LinkStarts { list })
-    }
-}
+pub type LinkStarts = List<LinkStart>;
 
 /// What one end starts with.
 #[derive(Debug, Drop)]
@@ -113,7 +63,7 @@ impl EndStart {
         ensures { IfOk result (λ s. s ≡ self.now) }
     {
         let key = self.key;
-        let links = self.links.copy(alloc)?;
+        let links = List::from_slice(alloc, self.links.as_slice())?;
         Ok(EndStart {
             end: self.end,
             ap: self.ap,

@@ -5,6 +5,7 @@ use Rattle.std.specs.List.{AllByRecursion}
 use Rattle.std.proofs.lemmas.List.{append-nil}
 use Rattle.std.proofs.lemmas.List.Elements.{filter-append}
 use Rattle.wl_elem.specs.declared.fault.Refusal.{Refusal}
+use Rattle.wl_elem.specs.Answers.{in_inner}
 use Rattle.wl_elem.specs.Element.{ElementValue}
 use Rattle.wl_inherit.specs.declared.non_inheritance.NonInheritance.{NonInheritance}
 use Rattle.wl_inherit.specs.NonInheritance.{NonOf, NonRefused, ReadAs}
@@ -39,7 +40,7 @@ one_bad i [] a b bad other = absurd bad
 one_bad i (e ∷ profile) a b (inl (is, inside, bad, at)) (inl (is2, inside2, bad2, at2)) =
     let e = one_reading e.body (Err inside) (Err inside2) bad bad2 in
     let same : inside ≡ inside2 = cc in
-    at ∙ ap (λ (r : Refusal). record r { inner = Some i }) same ∙ sym at2
+    at ∙ ap (λ (r : Refusal). in_inner i r) same ∙ sym at2
 one_bad i (e ∷ profile) a b (inl (is, inside, bad, at)) (inr (decoded, bad2)) = let d = decoded is in absurd (read_or_bad d.0 e.body inside d.1 bad)
 one_bad i (e ∷ profile) a b (inr (decoded, bad)) (inl (is, inside, bad2, at)) = let d = decoded is in absurd (read_or_bad d.0 e.body inside d.1 bad2)
 one_bad i (e ∷ profile) a b (inr (decoded, bad)) (inr (decoded2, bad2)) = one_bad (suc i) profile a b bad bad2
@@ -66,7 +67,7 @@ settled_other i e profile isnt (inr (refusal, bad)) = inr (refusal, inr (λ is. 
 settled_non : (i : ℕ) (e : ElementValue) (profile : List ElementValue) (reading : Result NonInheritance Refusal) → is_non e.id e.ext ≡ true → ReadAs e.body reading → IsSettled (suc i) profile → IsSettled i (e ∷ profile)
 settled_non i e profile (Ok n) is of (inl (nons, are)) = inl (n ∷ nons, inl (is, n, nons, of, are, refl))
 settled_non i e profile (Ok n) is of (inr (refusal, bad)) = inr (refusal, inr (λ _. (n, of), bad))
-settled_non i e profile (Err inside) is bad rest = inr (record inside { inner = Some i }, inl (is, inside, bad, refl))
+settled_non i e profile (Err inside) is bad rest = inr (in_inner i inside, inl (is, inside, bad, refl))
 
 by_kind : (i : ℕ) (e : ElementValue) (profile : List ElementValue) (b : Bool) → is_non e.id e.ext ≡ b → AllByRecursion (λ octet. octet < 256) e.body → IsSettled (suc i) profile → IsSettled i (e ∷ profile)
 by_kind i e profile true is octets rest = let reading = is_read_or_refused e.body octets in settled_non i e profile reading.0 is reading.1 rest

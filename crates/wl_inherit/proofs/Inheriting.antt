@@ -7,9 +7,10 @@ use Rattle.wl_elem.specs.Element.{ElementValue, has_shape}
 use Rattle.wl_inherit.specs.declared.identities.Identities.{Identities}
 use Rattle.wl_inherit.specs.Identity.{has_identity, of_identity, has_any, never_inherited}
 use Rattle.wl_inherit.specs.Marks.{is_marked, Adds}
-use Rattle.wl_inherit.specs.Shrinking.{same_elements}
+use Rattle.wl_inherit.specs.Shrunk.{same_elements}
 use Rattle.wl_inherit.proofs.Filters.{at_identity}
-use Rattle.wl_inherit.proofs.Marking.{or_false, or_true, or_assoc, IsTableOf}
+use Rattle.std.proofs.Math.Bool.{or-false, or-true}
+use Rattle.wl_inherit.proofs.Marking.{or_assoc, IsTableOf}
 
 -- whether an identity can be inherited and has the same elements in the frame
 abbrev pub is_same : List ElementValue → List ElementValue → ℕ → Option ℕ → Bool
@@ -24,7 +25,7 @@ pub record HasPassed (passes : ℕ → Option ℕ → Bool) (list : List Element
   pub marks : (id : ℕ) (ext : Option ℕ) → is_marked t id ext ≡ (has_any id ext list && passes id ext)
 
 pub nothing_seen : (t : Identities) → IsTableOf never_inherited t → HasSeen [] t
-nothing_seen t table = record { marks = λ id ext shape. table id ext shape ∙ sym (or_false (never_inherited id ext)) }
+nothing_seen t table = record { marks = λ id ext shape. table id ext shape ∙ sym (or-false (never_inherited id ext)) }
 
 -- one element more of a list
 abbrev at_more : List ElementValue → ℕ → ElementValue → ℕ → Option ℕ → Type 0
@@ -41,8 +42,8 @@ seen_still list i e t lt at shape so_far met = record {
 }
   where
     by : (this never before : Bool) → (this ≡ true → (never || before) ≡ true) → (never || before) ≡ (never || (before || this))
-    by true never before h = h refl ∙ sym (ap (λ (x : Bool). never || x) (or_true before) ∙ or_true never)
-    by false never before h = ap (λ (x : Bool). never || x) (sym (or_false before))
+    by true never before h = h refl ∙ sym (ap (λ (x : Bool). never || x) (or-true before) ∙ or-true never)
+    by false never before h = ap (λ (x : Bool). never || x) (sym (or-false before))
 
 -- its identity is met first
 pub seen_more : (list : List ElementValue) (i : ℕ) (e : ElementValue) (a b : Identities) → i < length list → e ≡ get_or list i e → HasSeen (take i list) a → Adds e.id e.ext a b → HasSeen (take (i + 1) list) b
@@ -66,11 +67,11 @@ passed_still passes list i e t lt at so_far why = record {
 
     cases : (before pass : Bool) → (pass ≡ false) ⊎ (before ≡ true) → (before && pass) ≡ ((before || true) && pass)
     cases before pass (inl fails) = and_right before pass fails ∙ sym (and_right (before || true) pass fails)
-    cases before pass (inr met) = ap (λ (x : Bool). x && pass) (met ∙ sym (or_true before))
+    cases before pass (inr met) = ap (λ (x : Bool). x && pass) (met ∙ sym (or-true before))
 
     by : (this before pass : Bool) → (this ≡ true → (pass ≡ false) ⊎ (before ≡ true)) → (before && pass) ≡ ((before || this) && pass)
     by true before pass h = cases before pass (h refl)
-    by false before pass h = ap (λ (x : Bool). x && pass) (sym (or_false before))
+    by false before pass h = ap (λ (x : Bool). x && pass) (sym (or-false before))
 
 -- it passes the test
 pub passed_more : (passes : ℕ → Option ℕ → Bool) (list : List ElementValue) (i : ℕ) (e : ElementValue) (a b : Identities) → i < length list → e ≡ get_or list i e → HasPassed passes (take i list) a → Adds e.id e.ext a b
@@ -82,8 +83,8 @@ passed_more passes list i e a b lt at so_far adds pass = record {
 }
   where
     by : (this before p : Bool) → (this ≡ true → p ≡ true) → ((before && p) || this) ≡ ((before || this) && p)
-    by true before p h = or_true (before && p) ∙ sym (ap (λ (x : Bool). x && p) (or_true before) ∙ h refl)
-    by false before p h = or_false (before && p) ∙ ap (λ (x : Bool). x && p) (sym (or_false before))
+    by true before p h = or-true (before && p) ∙ sym (ap (λ (x : Bool). x && p) (or-true before) ∙ h refl)
+    by false before p h = or-false (before && p) ∙ ap (λ (x : Bool). x && p) (sym (or-false before))
 
 -- the ways of an element that was met, of one that differs, and of one that is the same
 pub met_already : (outer full before : List ElementValue) (id : ℕ) (ext : Option ℕ) → (never_inherited id ext || has_any id ext before) ≡ true → (is_same outer full id ext ≡ false) ⊎ (has_any id ext before ≡ true)

@@ -1,10 +1,10 @@
 -- The marks of what a profile doesn't inherit, element by element.
-use Rattle.std.proofs.Common.{◌≡◌, ℕ, zero, suc, ◌+◌, ◌<◌, Bool, true, false, not, ◌&&◌, ◌||◌, eqb, List, [], ◌∷◌, ◌++◌, length, take, get_or, Option, Some, None, refl, sym, ap, subst, ◌∙◌, arith, inl, inr}
+use Rattle.std.proofs.Common.{◌≡◌, ℕ, zero, suc, ◌+◌, ◌<◌, Bool, true, false, not, ◌&&◌, ◌||◌, List, [], ◌∷◌, ◌++◌, length, take, get_or, refl, sym, ap, subst, ◌∙◌, arith, inl, inr}
 use Rattle.std.specs.Prelude.{IsTrue}
-use Rattle.std.specs.List.{list_any}
 use Rattle.std.proofs.lemmas.List.{append-nil}
 use Rattle.std.proofs.lemmas.List.Folds.{list_any-append}
 use Rattle.wl_elem.specs.declared.fault.Refusal.{Refusal}
+use Rattle.wl_elem.specs.Answers.{in_inner}
 use Rattle.wl_elem.specs.Element.{ElementValue}
 use Rattle.wl_inherit.specs.declared.identities.Identities.{Identities}
 use Rattle.wl_inherit.specs.declared.non_inheritance.NonInheritance.{NonInheritance}
@@ -12,7 +12,8 @@ use Rattle.wl_inherit.specs.NonInheritance.{NonOf, NonRefused}
 use Rattle.wl_inherit.specs.Identity.{has_identity, has_any, is_non, never_inherited}
 use Rattle.wl_inherit.specs.Inheritance.{lists, is_listed, is_inherited, Nons, IsDecoded, BadNon}
 use Rattle.wl_inherit.specs.Marks.{Adds, AddsLists, LeavesOut, TakesOthers}
-use Rattle.wl_inherit.proofs.Marking.{or_false, of_ids, of_exts, IsTableOf}
+use Rattle.std.proofs.Math.Bool.{or-false}
+use Rattle.wl_inherit.proofs.Marking.{IsTableOf}
 
 pub Nons-append : (front back : List ElementValue) (nons others : List NonInheritance) → Nons front nons → Nons back others → Nons (front ++ back) (nons ++ others)
 Nons-append [] back nons others e are = subst (λ (x : List NonInheritance). Nons back (x ++ others)) (sym e) are
@@ -22,26 +23,23 @@ Nons-append (e ∷ front) back nons others (inr (isnt, rest)) are = inr (isnt, N
 
 -- nothing is left out yet but what is never inherited
 pub none_yet : (t : Identities) → IsTableOf never_inherited t → LeavesOut [] t
-none_yet t table = record { nons = []; are = refl; marks = λ id ext shape. table id ext shape ∙ sym (or_false (never_inherited id ext)) }
+none_yet t table = record { nons = []; are = refl; marks = λ id ext shape. table id ext shape ∙ sym (or-false (never_inherited id ext)) }
 
 by_own : (never listed own this : Bool) → ((never || (listed || own)) || this) ≡ (never || (listed || (own || (this || false))))
 by_own true listed own this = refl
 by_own false true own this = refl
 by_own false false true this = refl
-by_own false false false this = sym (or_false this)
+by_own false false false this = sym (or-false this)
 
-by_lists : (never listed own this ids exts : Bool) → ((((never || (listed || own)) || this) || ids) || exts) ≡ (never || ((listed || ((ids || exts) || false)) || (own || (this || false))))
-by_lists true listed own this ids exts = refl
-by_lists false true own this ids exts = refl
-by_lists false false true this true exts = refl
-by_lists false false true this false true = refl
-by_lists false false true this false false = refl
-by_lists false false false true true exts = refl
-by_lists false false false true false true = refl
-by_lists false false false true false false = refl
-by_lists false false false false true exts = refl
-by_lists false false false false false true = refl
-by_lists false false false false false false = refl
+by_lists : (never listed own this here : Bool) → (((never || (listed || own)) || this) || here) ≡ (never || ((listed || (here || false)) || (own || (this || false))))
+by_lists true listed own this here = refl
+by_lists false true own this here = refl
+by_lists false false true this true = refl
+by_lists false false true this false = refl
+by_lists false false false true true = refl
+by_lists false false false true false = refl
+by_lists false false false false true = refl
+by_lists false false false false false = refl
 
 -- an element that isn't a Non-Inheritance element
 pub own_more : (profile : List ElementValue) (e : ElementValue) (a b : Identities) → Adds e.id e.ext a b → is_non e.id e.ext ≡ false → LeavesOut profile a → LeavesOut (profile ++ e ∷ []) b
@@ -54,20 +52,15 @@ own_more profile e a b adds isnt so_far = record {
       ∙ ap (λ (x : Bool). never_inherited id ext || (is_listed (so_far.nons ++ []) id ext || x)) (sym (list_any-append (has_identity id ext) profile (e ∷ [])));
 }
 
-both_lists : (n : NonInheritance) (id : ℕ) (ext : Option ℕ) → (lists (of_ids n.ids) id ext || lists (of_exts n.exts) id ext) ≡ lists n id ext
-both_lists n id None = or_false (list_any (λ x. eqb x id) n.ids)
-both_lists n id (Some ext) = refl
-
 -- a Non-Inheritance element
-pub non_more : (profile : List ElementValue) (e : ElementValue) (n : NonInheritance) (a b c d : Identities) → Adds e.id e.ext a b → AddsLists (of_ids n.ids) b c → AddsLists (of_exts n.exts) c d
-    → IsTrue (is_non e.id e.ext) → NonOf n e.body → LeavesOut profile a → LeavesOut (profile ++ e ∷ []) d
-non_more profile e n a b c d adds ids exts is of so_far = record {
+pub non_more : (profile : List ElementValue) (e : ElementValue) (n : NonInheritance) (a b c : Identities) → Adds e.id e.ext a b → AddsLists n b c
+    → IsTrue (is_non e.id e.ext) → NonOf n e.body → LeavesOut profile a → LeavesOut (profile ++ e ∷ []) c
+non_more profile e n a b c adds added is of so_far = record {
   nons = so_far.nons ++ n ∷ [];
   are = Nons-append profile (e ∷ []) so_far.nons (n ∷ []) so_far.are (inl (is, n, [], of, refl, refl));
-  marks = λ id ext shape. exts.marks id ext shape
-      ∙ ap (λ (x : Bool). x || lists (of_exts n.exts) id ext) (ids.marks id ext shape ∙ ap (λ (x : Bool). x || lists (of_ids n.ids) id ext) (adds.marks id ext ∙ ap (λ (x : Bool). x || has_identity id ext e) (so_far.marks id ext shape)))
-      ∙ by_lists (never_inherited id ext) (is_listed so_far.nons id ext) (has_any id ext profile) (has_identity id ext e) (lists (of_ids n.ids) id ext) (lists (of_exts n.exts) id ext)
-      ∙ ap (λ (x : Bool). never_inherited id ext || ((is_listed so_far.nons id ext || (x || false)) || (has_any id ext profile || (has_identity id ext e || false)))) (both_lists n id ext)
+  marks = λ id ext shape. added.marks id ext shape
+      ∙ ap (λ (x : Bool). x || lists n id ext) (adds.marks id ext ∙ ap (λ (x : Bool). x || has_identity id ext e) (so_far.marks id ext shape))
+      ∙ by_lists (never_inherited id ext) (is_listed so_far.nons id ext) (has_any id ext profile) (has_identity id ext e) (lists n id ext)
       ∙ ap (λ (x : Bool). never_inherited id ext || (x || (has_any id ext profile || (has_identity id ext e || false)))) (sym (list_any-append (λ m. lists m id ext) so_far.nons (n ∷ [])))
       ∙ ap (λ (x : Bool). never_inherited id ext || (is_listed (so_far.nons ++ n ∷ []) id ext || x)) (sym (list_any-append (has_identity id ext) profile (e ∷ [])));
 }
@@ -83,23 +76,23 @@ later e rest nons (inl (is, n, others, of, more, same)) = (others, more)
 later e rest nons (inr (isnt, more)) = (nons, more)
 
 bad_from : (k i : ℕ) (profile : List ElementValue) (e : ElementValue) (nons : List NonInheritance) (inside : Refusal) → i < length profile → e ≡ get_or profile i e → Nons (take i profile) nons → IsTrue (is_non e.id e.ext) → NonRefused e.body inside
-    → BadNon k profile (record inside { inner = Some (k + i) })
+    → BadNon k profile (in_inner (k + i) inside)
 bad_from k i [] e nons inside lt at are is bad = absurd (omega arith)
 bad_from k zero (x ∷ profile) e nons inside lt at are is bad =
     let none : k + 0 ≡ k = omega arith in
     let is_x : IsTrue (is_non x.id x.ext) = subst (λ (y : ElementValue). IsTrue (is_non y.id y.ext)) at is in
     let bad_x : NonRefused x.body inside = subst (λ (y : ElementValue). NonRefused y.body inside) at bad in
-    inl (is_x, inside, bad_x, ap (λ (n : ℕ). record inside { inner = Some n }) none)
+    inl (is_x, inside, bad_x, ap (λ (n : ℕ). in_inner n inside) none)
 bad_from k (suc i) (x ∷ profile) e nons inside lt at are is bad =
     let next : suc k + i ≡ k + suc i = omega arith in
     let more = later x (take i profile) nons are in
-    inr (decoded_front x (take i profile) nons are, subst (λ (n : ℕ). BadNon (suc k) profile (record inside { inner = Some n })) next (bad_from (suc k) i profile e more.0 inside (omega arith) at more.1 is bad))
+    inr (decoded_front x (take i profile) nons are, subst (λ (n : ℕ). BadNon (suc k) profile (in_inner n inside)) next (bad_from (suc k) i profile e more.0 inside (omega arith) at more.1 is bad))
 
 pub bad_at : (i : ℕ) (profile : List ElementValue) (e : ElementValue) (nons : List NonInheritance) (inside : Refusal) → i < length profile → e ≡ get_or profile i e → Nons (take i profile) nons → IsTrue (is_non e.id e.ext) → NonRefused e.body inside
-    → BadNon 0 profile (record inside { inner = Some i })
+    → BadNon 0 profile (in_inner i inside)
 bad_at i profile e nons inside lt at are is bad =
     let none : 0 + i ≡ i = omega arith in
-    subst (λ (n : ℕ). BadNon 0 profile (record inside { inner = Some n })) none (bad_from 0 i profile e nons inside lt at are is bad)
+    subst (λ (n : ℕ). BadNon 0 profile (in_inner n inside)) none (bad_from 0 i profile e nons inside lt at are is bad)
 
 -- ---- what the marks leave
 

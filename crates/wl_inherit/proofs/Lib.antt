@@ -7,4 +7,4 @@ pub mod Regaining
 pub mod Octets
 pub mod Pairing
 pub mod Inheriting
-pub mod Shrunk
+pub mod Tables

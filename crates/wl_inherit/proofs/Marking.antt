@@ -1,8 +1,10 @@
 -- Marks added one after the other.
-use Rattle.std.proofs.Common.{◌≡◌, replicate, subst, ℕ, ◌+◌, ◌<◌, Bool, true, false, not, ◌&&◌, ◌||◌, eqb, List, [], length, take, get_or, Option, Some, None, refl, sym, ap, ◌∙◌, arith, inl, inr}
+use Rattle.std.proofs.Common.{◌≡◌, ◌≢◌, ◌⊎◌, set, replicate, subst, ℕ, ◌+◌, ◌<◌, Bool, true, false, not, ◌&&◌, ◌||◌, eqb, List, [], length, take, get_or, Option, Some, None, refl, sym, ap, ◌∙◌, arith, inl, inr}
 use Rattle.std.specs.Prelude.{IsTrue}
 use Rattle.std.specs.List.{list_any}
-use Rattle.std.proofs.lemmas.List.{get_or-replicate, get_or_past, length-replicate}
+use Rattle.std.proofs.Math.Bool.{or-false, or-true}
+use Rattle.std.proofs.lemmas.Grind.{get_or-set_at}
+use Rattle.std.proofs.lemmas.List.{get_or-replicate, get_or-set_other, get_or_past, length-replicate}
 use Rattle.std.proofs.lemmas.Bool.{cases_lt, cases_eq, eqb-true, eq-eqb, ne_eqb, and_right}
 use Rattle.std.proofs.lemmas.List.Folds.{list_any_more}
 use Rattle.wl_elem.specs.Element.{ElementValue, has_shape}
@@ -11,18 +13,6 @@ use Rattle.wl_inherit.specs.declared.non_inheritance.NonInheritance.{NonInherita
 use Rattle.wl_inherit.specs.Identity.{has_any, has_identity, is_non, never_inherited}
 use Rattle.wl_inherit.specs.Inheritance.{lists}
 use Rattle.wl_inherit.specs.Marks.{AddsAll, is_marked, Adds, AddsLists}
-
-pub or_false : (a : Bool) → (a || false) ≡ a
-or_false true = refl
-or_false false = refl
-
-pub and_true : (a : Bool) → (a && true) ≡ a
-and_true true = refl
-and_true false = refl
-
-pub or_true : (a : Bool) → (a || true) ≡ true
-or_true true = refl
-or_true false = refl
 
 pub or_assoc : (a b c : Bool) → ((a || b) || c) ≡ (a || (b || c))
 or_assoc true b c = refl
@@ -37,48 +27,23 @@ eqb-sym a b =
 
 -- ---- the lists of a value
 
-abbrev pub of_ids : List ℕ → NonInheritance
-of_ids ids = record { ids = ids; exts = []; tail = [] }
-
-abbrev pub of_exts : List ℕ → NonInheritance
-of_exts exts = record { ids = []; exts = exts; tail = [] }
-
-pub no_ids : (t : Identities) → AddsLists (of_ids []) t t
-no_ids t = record { marks = by }
+-- one octet more is marked in a table
+pub marked_more : (table : List Bool) (octets : List ℕ) (i n : ℕ) (old : Bool) → i < length octets → get_or octets i 0 < length table → get_or table n false ≡ (old || list_any (λ x. eqb x n) (take i octets))
+    → get_or (set table (get_or octets i 0) true) n false ≡ (old || list_any (λ x. eqb x n) (take (i + 1) octets))
+marked_more table octets i n old lt inside so_far =
+    at (cases_eq n (get_or octets i 0)) ∙ ap (λ (x : Bool). x || eqb (get_or octets i 0) n) so_far ∙ or_assoc old (list_any (λ x. eqb x n) (take i octets)) (eqb (get_or octets i 0) n)
+    ∙ ap (λ (x : Bool). old || x) (sym (list_any_more (λ x. eqb x n) octets i 0 lt))
   where
-    by : (id : ℕ) (ext : Option ℕ) → IsTrue (has_shape id ext) → is_marked t id ext ≡ (is_marked t id ext || lists (of_ids []) id ext)
-    by id None shape = sym (or_false _)
-    by id (Some ext) shape = sym (or_false _)
+    at : (n ≡ get_or octets i 0) ⊎ (n ≢ get_or octets i 0) → get_or (set table (get_or octets i 0) true) n false ≡ (get_or table n false || eqb (get_or octets i 0) n)
+    at (inl same) = get_or-set_at table (get_or octets i 0) n true false same inside ∙ sym (ap (λ (x : Bool). get_or table n false || x) (eq-eqb (get_or octets i 0) n (sym same)) ∙ or-true (get_or table n false))
+    at (inr other) = get_or-set_other table (get_or octets i 0) n true false other ∙ sym (ap (λ (x : Bool). get_or table n false || x) (ne_eqb (get_or octets i 0) n (λ e. other (sym e))) ∙ or-false (get_or table n false))
 
-pub no_exts : (t : Identities) → AddsLists (of_exts []) t t
-no_exts t = no_ids t
-
-pub ids_more : (ids : List ℕ) (i : ℕ) (a b c : Identities) → i < length ids → AddsLists (of_ids (take i ids)) a b → Adds (get_or ids i 0) None b c → AddsLists (of_ids (take (i + 1) ids)) a c
-ids_more ids i a b c lt so_far one = record { marks = by }
+pub both_lists : (n : NonInheritance) (a b : Identities) → ((k : ℕ) → get_or b.ids k false ≡ (get_or a.ids k false || list_any (λ x. eqb x k) n.ids)) → ((k : ℕ) → get_or b.exts k false ≡ (get_or a.exts k false || list_any (λ x. eqb x k) n.exts)) → AddsLists n a b
+both_lists n a b ids exts = record { marks = by }
   where
-    by : (id : ℕ) (ext : Option ℕ) → IsTrue (has_shape id ext) → is_marked c id ext ≡ (is_marked a id ext || lists (of_ids (take (i + 1) ids)) id ext)
-    by id None shape =
-        one.marks id None ∙ ap (λ (x : Bool). x || (eqb (get_or ids i 0) id && true)) (so_far.marks id None shape)
-        ∙ or_assoc (is_marked a id None) (list_any (λ x. eqb x id) (take i ids)) _
-        ∙ ap (λ (x : Bool). is_marked a id None || x) (ap (λ (x : Bool). list_any (λ x. eqb x id) (take i ids) || x) (and_true (eqb (get_or ids i 0) id)) ∙ sym (list_any_more (λ x. eqb x id) ids i 0 lt))
-    by id (Some ext) shape =
-        one.marks id (Some ext) ∙ ap (λ (x : Bool). is_marked b id (Some ext) || x) (and_right (eqb (get_or ids i 0) id) false refl)
-        ∙ or_false (is_marked b id (Some ext)) ∙ so_far.marks id (Some ext) shape
-
-shape_id : (id ext : ℕ) → IsTrue (has_shape id (Some ext)) → eqb 255 id ≡ true
-shape_id id ext shape = eqb-sym 255 id ∙ shape
-
-pub exts_more : (exts : List ℕ) (i : ℕ) (a b c : Identities) → i < length exts → AddsLists (of_exts (take i exts)) a b → Adds 255 (Some (get_or exts i 0)) b c → AddsLists (of_exts (take (i + 1) exts)) a c
-exts_more exts i a b c lt so_far one = record { marks = by }
-  where
-    by : (id : ℕ) (ext : Option ℕ) → IsTrue (has_shape id ext) → is_marked c id ext ≡ (is_marked a id ext || lists (of_exts (take (i + 1) exts)) id ext)
-    by id None shape =
-        one.marks id None ∙ ap (λ (x : Bool). is_marked b id None || x) (and_right (eqb 255 id) false refl)
-        ∙ or_false (is_marked b id None) ∙ so_far.marks id None shape
-    by id (Some ext) shape =
-        one.marks id (Some ext) ∙ ap (λ (x : Bool). x || (eqb 255 id && eqb (get_or exts i 0) ext)) (so_far.marks id (Some ext) shape)
-        ∙ or_assoc (is_marked a id (Some ext)) (list_any (λ x. eqb x ext) (take i exts)) _
-        ∙ ap (λ (x : Bool). is_marked a id (Some ext) || x) (ap (λ (x : Bool). list_any (λ x. eqb x ext) (take i exts) || (x && eqb (get_or exts i 0) ext)) (shape_id id ext shape) ∙ sym (list_any_more (λ x. eqb x ext) exts i 0 lt))
+    by : (id : ℕ) (ext : Option ℕ) → IsTrue (has_shape id ext) → is_marked b id ext ≡ (is_marked a id ext || lists n id ext)
+    by id None shape = ids id
+    by id (Some ext) shape = ap (λ (x : Bool). x && get_or b.exts ext false) shape ∙ exts ext ∙ ap (λ (x : Bool). (x && get_or a.exts ext false) || list_any (λ x. eqb x ext) n.exts) (sym shape)
 
 -- ---- the tables of a few extensions
 
@@ -123,7 +88,7 @@ no_marks n id (Some ext) = and_right (eqb id 255) (get_or (replicate n false) ex
 -- ---- the identities of a list
 
 pub all_none : (t : Identities) → AddsAll [] t t
-all_none t = record { marks = λ id ext. sym (or_false (is_marked t id ext)) }
+all_none t = record { marks = λ id ext. sym (or-false (is_marked t id ext)) }
 
 pub all_more : (list : List ElementValue) (i : ℕ) (e : ElementValue) (a b c : Identities) → i < length list → e ≡ get_or list i e → AddsAll (take i list) a b → Adds e.id e.ext b c → AddsAll (take (i + 1) list) a c
 all_more list i e a b c lt at so_far one = record {

@@ -5,7 +5,7 @@ use Rattle.std.proofs.lemmas.List.{append-nil, take_all}
 use Rattle.std.proofs.lemmas.List.Elements.{filter_more}
 use Rattle.std.proofs.lemmas.List.FromFn.{length-range_with_len, get_or-range_with_len}
 use Rattle.std.proofs.lemmas.List.Sums.{length-filter, count_by-le-length}
-use Rattle.wl_inherit.specs.Shrinking.{octet_values}
+use Rattle.wl_inherit.specs.Shrunk.{octet_values}
 
 pub octet_at : (i : ℕ) → i < 256 → get_or octet_values i 0 ≡ i
 unfolding octet_values

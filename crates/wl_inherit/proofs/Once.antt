@@ -1,11 +1,11 @@
 -- A body is read in one way.
-use Rattle.std.proofs.Common.{◌≡◌, ℕ, zero, suc, ◌≤◌, ◌<◌, Bool, true, false, List, [], ◌∷◌, ◌++◌, length, take, drop, Result, Ok, Err, refl, sym, ap, ◌∙◌, arith, inl, inr, length-append}
-use Rattle.std.specs.List.{AllByRecursion}
+use Rattle.std.proofs.Common.{◌≡◌, ℕ, ◌≤◌, ◌<◌, Bool, true, false, List, [], ◌∷◌, ◌++◌, length, take, drop, Result, Ok, Err, refl, sym, ap, ◌∙◌, arith, inl, inr, length-append}
 use Rattle.std.proofs.lemmas.Bool.{ltb-false, le-ltb}
 use Rattle.std.proofs.lemmas.List.{take_at, drop_at, take-append-drop, length-take}
 use Rattle.wl_elem.specs.declared.fault.Refusal.{Refusal}
 use Rattle.wl_elem.specs.declared.why.Why.TheVariants.{Truncated}
 use Rattle.wl_elem.specs.Answers.{refusal_at}
+use Rattle.wl_elem.proofs.Octets.{IsOctets, IsOctets-drop}
 use Rattle.wl_inherit.specs.declared.non_inheritance.NonInheritance.{NonInheritance}
 use Rattle.wl_inherit.specs.NonInheritance.{listed, NonOf, is_cut, behind_list, NonRefused, ReadAs}
 
@@ -56,14 +56,6 @@ pub is_read_back : (n : NonInheritance) (body : List ℕ) (reading : Result NonI
 is_read_back n body reading of read = one_reading body reading (Ok n) read of
 
 -- ---- each body is read
-
-abbrev IsOctets : List ℕ → Type 0
-IsOctets octets = AllByRecursion (λ octet. octet < 256) octets
-
-IsOctets-drop : (n : ℕ) (octets : List ℕ) → IsOctets octets → IsOctets (drop n octets)
-IsOctets-drop zero octets h = h
-IsOctets-drop (suc n) [] h = tt
-IsOctets-drop (suc n) (b ∷ octets) h = IsOctets-drop n octets h.1
 
 -- the parts of a body whose first list is whole
 record IsWhole (body octets : List ℕ) : Type 0 where

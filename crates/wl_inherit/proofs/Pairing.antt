@@ -8,7 +8,7 @@ use Rattle.std.proofs.lemmas.Option.{slice_get-get_or, get_or_from_slice_get}
 use Rattle.wl_elem.specs.Element.{ElementValue, HasIdentity}
 use Rattle.wl_elem.specs.Finding.{IsAt, NoneBetween, IsFirst}
 use Rattle.wl_inherit.specs.Identity.{same_ext, has_identity, of_identity}
-use Rattle.wl_inherit.specs.Shrinking.{same_element, same_elements}
+use Rattle.wl_inherit.specs.Shrunk.{same_element, same_elements}
 use Rattle.wl_inherit.specs.Identity.{has_any}
 use Rattle.wl_inherit.proofs.Regaining.{not_empty, has_any_is}
 use Rattle.wl_inherit.proofs.Filters.{same_ext-true, same_ext-same}

@@ -14,8 +14,8 @@ use Rattle.wl_inherit.specs.declared.non_inheritance.NonInheritance.{NonInherita
 use Rattle.wl_inherit.specs.NonInheritance.{spelling}
 use Rattle.wl_inherit.specs.Identity.{same_ext, has_identity, of_identity, has_any, is_non, never_inherited, IsIdentity}
 use Rattle.wl_inherit.specs.Inheritance.{lists, is_listed, expanded, Nons}
-use Rattle.wl_inherit.specs.Shrinking.{same_element, same_elements, is_kept, is_dropped, octet_values, dropped_ids, dropped_exts, dropped_count, exclusion, shrunk, IsRegained}
-use Rattle.wl_inherit.proofs.Marking.{or_false, and_true}
+use Rattle.wl_inherit.specs.Shrunk.{same_element, same_elements, is_kept, is_dropped, octet_values, dropped_ids, dropped_exts, dropped_count, exclusion, shrunk, IsRegained}
+use Rattle.std.proofs.Math.Bool.{or-false, and-true}
 use Rattle.wl_inherit.proofs.Filters.{same_ext-true, filter_within, none_of}
 use Rattle.wl_inherit.proofs.LeavingOut.{Nons-append}
 use Rattle.wl_inherit.proofs.Expansion.{one_expansion, at_identity_expected, no_non}
@@ -59,7 +59,7 @@ any_cond true x n xs = refl
 any_cond false x n xs = refl
 
 any_step : (b same passes more : Bool) → (same ≡ true → b ≡ passes) → cond b (same || (passes && more)) (passes && more) ≡ (passes && (same || more))
-any_step true true passes more e = e refl ∙ sym (and_true passes)
+any_step true true passes more e = e refl ∙ sym (and-true passes)
 any_step true false passes more e = refl
 any_step false true true more e = absurd (cc (e refl))
 any_step false true false more e = refl
@@ -86,9 +86,9 @@ value_of outer full = record { ids = dropped_ids outer full; exts = dropped_exts
 
 lists_dropped : (outer full : List ElementValue) (id : ℕ) (ext : Option ℕ) → IsIdentity id ext → lists (value_of outer full) id ext ≡ is_dropped outer full id ext
 lists_dropped outer full id None is =
-    any_in_filter (λ id. is_dropped outer full id None) id octet_values ∙ ap (λ (b : Bool). is_dropped outer full id None && b) (has_octet id is.small) ∙ and_true (is_dropped outer full id None)
+    any_in_filter (λ id. is_dropped outer full id None) id octet_values ∙ ap (λ (b : Bool). is_dropped outer full id None && b) (has_octet id is.small) ∙ and-true (is_dropped outer full id None)
 lists_dropped outer full id (Some ext) is =
-    any_in_filter (λ ext. is_dropped outer full 255 (Some ext)) ext octet_values ∙ ap (λ (b : Bool). is_dropped outer full 255 (Some ext) && b) (has_octet ext is.small_ext) ∙ and_true (is_dropped outer full 255 (Some ext))
+    any_in_filter (λ ext. is_dropped outer full 255 (Some ext)) ext octet_values ∙ ap (λ (b : Bool). is_dropped outer full 255 (Some ext) && b) (has_octet ext is.small_ext) ∙ and-true (is_dropped outer full 255 (Some ext))
     ∙ ap (λ (n : ℕ). is_dropped outer full n (Some ext)) (sym (eqb-true id 255 is.shape))
 
 -- the values of the exclusion
@@ -99,8 +99,8 @@ nons_of ids exts = record { ids = ids; exts = exts; tail = [] } ∷ []
 listed_all : (ids exts : List ℕ) (id : ℕ) (ext : Option ℕ) → is_listed (nons_of ids exts) id ext ≡ lists (record { ids = ids; exts = exts; tail = [] }) id ext
 listed_all [] [] id None = refl
 listed_all [] [] id (Some x) = refl
-listed_all [] (y ∷ exts) id ext = or_false _
-listed_all (y ∷ ids) exts id ext = or_false _
+listed_all [] (y ∷ exts) id ext = or-false _
+listed_all (y ∷ ids) exts id ext = or-false _
 
 are_nons : (ids exts : List ℕ) → length ids ≤ 255 → length exts ≤ 255 → Nons (exclusion ids exts) (nons_of ids exts)
 are_nons [] [] le more = refl

@@ -1,7 +1,10 @@
 -- Elements of an identity, and the identities that are never inherited.
-use Rattle.std.specs.Prelude.{ℕ, ◌<◌, ◌==◌, IsTrue, IfSome, ◌&&◌, ◌||◌, Bool, true, false, List, filter, Option, Some, None}
+use Rattle.std.specs.Prelude.{ℕ, ◌<◌, ◌==◌, IsTrue, IfSome, ◌&&◌, ◌||◌, Bool, List, filter, Option, Some}
 use Rattle.std.specs.List.{list_any}
 use Rattle.wl_elem.specs.Element.{ElementValue, has_shape}
+use Rattle.wl_elem.specs.Cutting.{fragment_id}
+use Rattle.wl_elem.specs.Identity.{extended_id, non_inheritance, multi_link, tid_to_link_mapping}
+use Rattle.wl_elem.specs.declared.kind.ListKind.TheVariants.{Elements}
 pub use Rattle.wl_elem.specs.Identity.{same_ext, has_identity}
 
 -- the elements of this identity, in order
@@ -14,12 +17,13 @@ has_any id ext list = list_any (has_identity id ext) list
 
 -- the identity of the Non-Inheritance element
 abbrev pub is_non : ℕ → Option ℕ → Bool
-is_non id ext = (id == 255) && same_ext ext (Some 56)
+is_non id ext = (id == extended_id) && same_ext ext (Some non_inheritance)
 
 -- Fragment, Non-Inheritance, Multi-Link and TID-To-Link Mapping aren't inherited (IEEE Std
 -- 802.11be, 35.3, inheritance in per-STA profiles).
 abbrev pub never_inherited : ℕ → Option ℕ → Bool
-never_inherited id ext = (id == 242) || ((id == 255) && (same_ext ext (Some 56) || same_ext ext (Some 107) || same_ext ext (Some 109)))
+never_inherited id ext =
+    (id == fragment_id Elements) || ((id == extended_id) && (same_ext ext (Some non_inheritance) || same_ext ext (Some multi_link) || same_ext ext (Some tid_to_link_mapping)))
 
 -- an identity of octets that an element can have
 pub record IsIdentity (id : ℕ) (ext : Option ℕ) : Type 0 where

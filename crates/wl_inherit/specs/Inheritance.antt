@@ -4,6 +4,7 @@
 use Rattle.std.specs.Prelude.{◌≡◌, ℕ, suc, ◌==◌, ◌⊎◌, ◌&&◌, ◌||◌, not, Bool, false, if◌then◌else◌, IsTrue, List, [], ◌∷◌, ◌++◌, filter, Option, Some, None, Result, Ok, Err}
 use Rattle.std.specs.List.{list_any}
 use Rattle.wl_elem.specs.declared.fault.Refusal.{Refusal}
+use Rattle.wl_elem.specs.Answers.{in_inner}
 use Rattle.wl_elem.specs.Element.{ElementValue}
 use Rattle.wl_inherit.specs.declared.non_inheritance.NonInheritance.{NonInheritance}
 use Rattle.wl_inherit.specs.NonInheritance.{NonOf, NonRefused}
@@ -42,7 +43,7 @@ IsDecoded e = IsTrue (is_non e.id e.ext) → (n : NonInheritance) × NonOf n e.b
 abbrev pub BadNon : ℕ → List ElementValue → Refusal → Type 0
 BadNon i [] refusal = ⊥
 BadNon i (e ∷ profile) refusal =
-    (IsTrue (is_non e.id e.ext) × (inside : Refusal) × NonRefused e.body inside × (refusal ≡ record inside { inner = Some i }))
+    (IsTrue (is_non e.id e.ext) × (inside : Refusal) × NonRefused e.body inside × (refusal ≡ in_inner i inside))
     ⊎ (IsDecoded e × BadNon (suc i) profile refusal)
 
 -- the profile expanded within the frame, or as refused

@@ -2,4 +2,4 @@ pub mod NonInheritance
 pub mod Identity
 pub mod Inheritance
 pub mod Marks
-pub mod Shrinking
+pub mod Shrunk

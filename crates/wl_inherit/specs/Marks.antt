@@ -1,6 +1,7 @@
 -- For private contracts alone: tables of identities, and what they say of lists.
 use Rattle.std.specs.Prelude.{◌≡◌, ℕ, ◌==◌, ◌&&◌, ◌||◌, not, Bool, false, IsTrue, List, slice_index_or, Option, Some, None}
 use Rattle.wl_elem.specs.Element.{ElementValue, has_shape}
+use Rattle.wl_elem.specs.Identity.{extended_id}
 use Rattle.wl_inherit.specs.declared.identities.Identities.{Identities}
 use Rattle.wl_inherit.specs.declared.non_inheritance.NonInheritance.{NonInheritance}
 use Rattle.wl_inherit.specs.Identity.{same_ext, has_any, never_inherited}
@@ -9,7 +10,7 @@ use Rattle.wl_inherit.specs.Inheritance.{lists, is_listed, Nons}
 -- whether the identity is marked
 abbrev pub is_marked : Identities → ℕ → Option ℕ → Bool
 is_marked t id None = slice_index_or t.ids id false
-is_marked t id (Some ext) = (id == 255) && slice_index_or t.exts ext false
+is_marked t id (Some ext) = (id == extended_id) && slice_index_or t.exts ext false
 
 -- the marks are the old ones and this identity's
 pub record Adds (id : ℕ) (ext : Option ℕ) (old new : Identities) : Type 0 where

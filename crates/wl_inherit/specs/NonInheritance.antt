@@ -11,6 +11,7 @@ use Rattle.std.specs.Prelude.{◌≡◌, ℕ, suc, ◌≤◌, ◌⊎◌, nat_lt,
 use Rattle.wl_elem.specs.declared.fault.Refusal.{Refusal}
 use Rattle.wl_elem.specs.declared.why.Why.TheVariants.{Truncated}
 use Rattle.wl_elem.specs.Answers.{refusal_at}
+use Rattle.wl_elem.specs.Element.{body_limit}
 use Rattle.wl_inherit.specs.declared.non_inheritance.NonInheritance.{NonInheritance}
 
 -- a list, behind its length
@@ -33,7 +34,7 @@ pub record NonOf (n : NonInheritance) (body : List ℕ) : Type 0 where
 
 -- some body, no longer than an element's may be, is this value's
 abbrev pub IsWritable : NonInheritance → Type 0
-IsWritable n = (body : List ℕ) × (length body ≤ 16777216) × NonOf n body
+IsWritable n = (body : List ℕ) × (length body ≤ body_limit) × NonOf n body
 
 -- the length at the front, or the list behind it, isn't whole
 abbrev pub is_cut : List ℕ → Bool

@@ -2,9 +2,8 @@
 
 ghost use Rattle.std.specs.Prelude.{◌≡◌, ◌↔◌, ◌≤◌, ◌∷◌, ◌++◌, IsTrue, IsNone, IfOk, IfErr, IfSome, Option, Some, Result, length};
 ghost use Rattle.wl_elem.specs.declared.fault.Refusal.{Refusal};
-ghost use Rattle.wl_elem.specs.Answers.{Answers, AnswersOnly, refusal_at};
-ghost use Rattle.wl_elem.specs.declared.why.Why.TheVariants.{Truncated};
-ghost use Rattle.wl_elem.specs.Element.{HasIdentity, body_limit};
+ghost use Rattle.wl_elem.specs.Answers.{Answers, AnswersOnly};
+ghost use Rattle.wl_elem.specs.Identity.{HasExtension, non_inheritance};
 ghost use Rattle.wl_inherit.specs.declared.non_inheritance.NonInheritance.{NonInheritance};
 ghost use Rattle.wl_inherit.specs.NonInheritance.{ReadAs, NonOf, NonRefused, listed, is_cut};
 
@@ -35,30 +34,16 @@ fn first_list(octets: &[u8]) -> Option<(&[u8], &[u8])>
     Some(rest.split_at(len))
 }
 
-/// The refusal at this place of a body.
-fn refused(place: usize) -> Refusal
-    requires { place ≤ 256 }
-    ensures { result ≡ refusal_at place Truncated }
-{
-    Refusal {
-        element: None,
-        sub: None,
-        inner: None,
-        place: place as u32,
-        why: Why::Truncated,
-    }
-}
-
 /// The lists of a body.
 pub fn lists_of(body: &[u8]) -> Result<Lists<'_>, Refusal>
     ensures read { IfOk result (λ l. NonOf (record { ids = l.ids.now; exts = l.exts.now; tail = l.tail.now }) body.now) }
     ensures refused { IfErr result (λ refusal. NonRefused body.now refusal) }
 {
     let Some((ids, rest)) = first_list(body) else {
-        return Err(refused(0));
+        return Err(Refusal::at(0, Why::Truncated));
     };
     let Some((exts, tail)) = first_list(rest) else {
-        return Err(refused(1 + ids.len()));
+        return Err(Refusal::at(1 + ids.len(), Why::Truncated));
     };
     Ok(Lists { ids, exts, tail })
 }
@@ -80,7 +65,7 @@ fn value_of(alloc: Global, lists: Lists<'_>) -> Result<NonInheritance, Memory>
 /// list that isn't whole, or at the end where that octet is missing. The octets behind the lists are
 /// the tail. `Memory` where there was none for the value; it says nothing of the body.
 pub fn decode_non(alloc: Global, element: &Element) -> Result<NonInheritance, Fault>
-    requires { HasIdentity element.now 255 (Some 56) }
+    requires { HasExtension element.now non_inheritance }
     ensures read { Answers result (ReadAs element.now.body) }
     ensures only { (reading : Result NonInheritance Refusal) → ReadAs element.now.body reading → AnswersOnly result reading }
 {

@@ -1,12 +1,12 @@
 //! Writing the element's body.
 
 ghost use Rattle.std.specs.Prelude.{◌≡◌, ◌≤◌, ◌++◌, Option, Some, IfOk, OnOk, length};
-ghost use Rattle.wl_elem.specs.Element.{HasIdentity};
+ghost use Rattle.wl_elem.specs.Identity.{HasExtension, non_inheritance};
 ghost use Rattle.wl_inherit.specs.NonInheritance.{NonOf, IsWritable, IsNonInheritance, listed, spelling};
 
 use crate::non_inheritance::NonInheritance;
 use std::alloc::Global;
-use wl_elem::{Bytes, Element, Memory};
+use wl_elem::{Bytes, EXTENDED, Element, Memory, NON_INHERITANCE};
 
 /// A list behind its length.
 fn put_list(out: &mut Bytes, octets: &[u8]) -> Result<(), Memory>
@@ -33,11 +33,11 @@ fn body_of(alloc: Global, value: &NonInheritance) -> Result<Bytes, Memory>
 /// it. Its identity is 255/56. `Memory` where there was none for the body.
 pub fn encode_non(alloc: Global, value: &NonInheritance) -> Result<Element, Memory>
     requires { IsWritable value.now }
-    ensures identity { IfOk result (λ e. HasIdentity e 255 (Some 56)) }
+    ensures identity { IfOk result (λ e. HasExtension e non_inheritance) }
     ensures written { IfOk result (λ e. NonOf value.now e.body) }
 {
     let body = body_of(alloc, value)?;
-    match Element::new(255, Some(56), body) {
+    match Element::new(EXTENDED, Some(NON_INHERITANCE), body) {
         Some(element) => Ok(element),
         None => unreachable!(),
     }

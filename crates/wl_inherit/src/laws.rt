@@ -4,11 +4,12 @@ ghost use Rattle.std.specs.Prelude.{◌≡◌, ℕ, ◌<◌, ◌≤◌, [], List
 ghost use Rattle.std.specs.List.{AllByRecursion};
 ghost use Rattle.wl_elem.specs.declared.fault.Refusal.{Refusal};
 ghost use Rattle.wl_elem.specs.Element.{ElementValue};
+ghost use Rattle.wl_elem.specs.Identity.{extended_id, non_inheritance};
 ghost use Rattle.wl_inherit.specs.declared.non_inheritance.NonInheritance.{NonInheritance};
 ghost use Rattle.wl_inherit.specs.NonInheritance.{ReadAs, NonOf};
 ghost use Rattle.wl_inherit.specs.Identity.{IsIdentity, has_any, is_non, of_identity};
 ghost use Rattle.wl_inherit.specs.Inheritance.{Nons, ExpandsAs, expanded, expected};
-ghost use Rattle.wl_inherit.specs.Shrinking.{IsRegained, dropped_count, shrunk};
+ghost use Rattle.wl_inherit.specs.Shrunk.{IsRegained, dropped_count, shrunk};
 
 /// A body is read in one way: as one value, or with one refusal, and never both.
 pub fn read_once()
@@ -46,12 +47,12 @@ pub fn expanded_by_identity()
     ensures each { (outer profile list : List ElementValue) (nons : List NonInheritance) → Nons profile nons → list ≡ expanded nons outer profile
         → (id : ℕ) (ext : Option ℕ) → is_non id ext ≡ false → of_identity id ext list ≡ expected nons outer profile id ext }
     ensures none { (outer profile list : List ElementValue) (nons : List NonInheritance) → Nons profile nons → list ≡ expanded nons outer profile
-        → of_identity 255 (Some 56) list ≡ [] }
+        → of_identity extended_id (Some non_inheritance) list ≡ [] }
 {}
 
 /// What was shrunk is expanded, and only so, to a list that has the full list's elements of each
 /// identity.
 pub fn shrunk_expands_to_full()
-    ensures { (outer full : List ElementValue) → AllByRecursion (λ e. IsIdentity e.id e.ext) outer → has_any 255 (Some 56) full ≡ false
+    ensures { (outer full : List ElementValue) → AllByRecursion (λ e. IsIdentity e.id e.ext) outer → has_any extended_id (Some non_inheritance) full ≡ false
         → dropped_count outer full ≤ 252 → IsRegained outer full (shrunk outer full) }
 {}

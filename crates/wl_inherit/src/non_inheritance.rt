@@ -2,7 +2,7 @@
 
 ghost use Rattle.std.specs.Prelude.{◌↔◌, IsOk, IsTrue, IfOk};
 
-use wl_elem::{Bytes, Memory};
+use wl_elem::{BODY_LIMIT, Bytes, Memory};
 
 /// A Non-Inheritance element (IEEE Std 802.11, 9.4.2.240): what a per-STA profile doesn't inherit
 /// from the frame that carries it.
@@ -31,6 +31,6 @@ impl NonInheritance {
         if ids > 255 || exts > 255 {
             return Ok(false);
         }
-        Ok(self.tail.as_slice().len() <= 16_777_214 - ids - exts)
+        Ok(self.tail.as_slice().len() <= BODY_LIMIT - 2 - ids - exts)
     }
 }

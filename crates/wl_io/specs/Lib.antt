@@ -1,4 +1,5 @@
 pub mod Faults
+pub mod Seen
 pub mod Source
 pub mod Sink
 pub mod Reading

@@ -1,6 +1,7 @@
 -- Reading a source to its end.
 use Rattle.std.specs.Prelude.{◌≡◌, ℕ, ◌+◌, ◌<◌, List, [], length, drop, Option, Some, None}
 use Rattle.wl_io.specs.Faults.{Rose}
+use Rattle.wl_io.specs.Seen.{Seen, IsUnharmed}
 use Rattle.wl_io.specs.Source.{HandsSome}
 use Rattle.wl_io.specs.declared.read.ReadFault.{ReadFault}
 use Rattle.wl_io.specs.declared.read.ReadFault.TheVariants.{Failed, TooLong, Memory}
@@ -19,8 +20,9 @@ abbrev pub IsTooLong : Option (List ℕ) → Option (List ℕ) → Type 0
 IsTooLong (Some left) new = (read_limit < length left) × (new ≡ Some (drop (read_limit + 1) left))
 IsTooLong None new = Unit {0}
 
--- Why no bytes were answered. Want of memory has no cause.
-abbrev pub IsReadFault : Option (List ℕ) → Option (List ℕ) → ℕ → ℕ → ReadFault → Type 0
-IsReadFault old new faults faults' Failed = Rose faults faults' × HandsSome old new
-IsReadFault old new faults faults' (TooLong count) = (count ≡ read_limit + 1) × IsTooLong old new
-IsReadFault old new faults faults' Memory = HandsSome old new
+-- Why no bytes were answered. The count of faults rose where a read failed, and only there. Want of
+-- memory has no cause.
+abbrev pub IsReadFault : Seen → ReadFault → Type 0
+IsReadFault source Failed = Rose source.faults source.faults' × HandsSome source.bytes source.bytes'
+IsReadFault source (TooLong count) = (count ≡ read_limit + 1) × IsTooLong source.bytes source.bytes' × IsUnharmed source
+IsReadFault source Memory = HandsSome source.bytes source.bytes' × IsUnharmed source

@@ -172,6 +172,7 @@ impl Source for MemSource {
         ensures bound { IfOk result (λ n. n ≤ length buf.new) }
         ensures handed { IfOk result (λ n. Hands (Some self.old.bytes) (Some self.new.bytes) (take n buf.new)) }
         ensures end { result ≡ Ok 0 → 0 < length buf.new → IsEnd (Some self.old.bytes) }
+        ensures unharmed { OnOk result (self.new.faults ≡ self.old.faults) }
         ensures failed { OnErr result (Rose self.old.faults self.new.faults) }
         ensures kept { OnErr result (Some self.new.bytes ≡ Some self.old.bytes) }
 
@@ -243,6 +244,7 @@ impl Sink for MemSink {
         ensures bound { IfOk result (λ n. n ≤ length piece.now) }
         ensures progress { IfOk result (λ n. 0 < length piece.now → 0 < n) }
         ensures took { IfOk result (λ n. Takes (Some self.old.bytes) (Some self.new.bytes) (take n piece.now)) }
+        ensures unharmed { OnOk result (self.new.faults ≡ self.old.faults) }
         ensures failed { OnErr result (Rose self.old.faults self.new.faults) }
         ensures kept { OnErr result (Some self.new.bytes ≡ Some self.old.bytes) }
 

@@ -2,6 +2,7 @@
 
 ghost use Rattle.std.specs.Prelude.{◌≡◌, ◌≤◌, ◌<◌, [], length, IfOk, IfErr, OnOk};
 ghost use Rattle.wl_io.specs.Reading.{AreAll, IsReadFault, read_limit};
+ghost use Rattle.wl_io.specs.Seen.{seen};
 ghost use Rattle.wl_io.specs.declared.read.ReadFault.TheVariants.{Failed, Memory};
 
 use crate::traits::{self, Source};
@@ -52,12 +53,14 @@ impl From<AllocError> for ReadFault {
 /// All bytes of the source, in order.
 ///
 /// It stops at the first byte above the limit, so the count of `TooLong` is the limit and one.
-/// `Failed` comes only where the source's count of faults rose.
+/// `Failed` comes only where the source's count of faults rose, and every other answer, Ok too, leaves
+/// that count as it was.
 pub fn read_all<S: Source>(alloc: Global, source: &mut S) -> Result<Bytes, ReadFault>
     ensures count { S.faults source.old ≤ S.faults source.new }
     ensures bound { IfOk result (λ bytes. length bytes ≤ read_limit) }
     ensures all { IfOk result (λ bytes. AreAll (S.left source.old) (S.left source.new) bytes) }
-    ensures fault { IfErr result (λ e. IsReadFault (S.left source.old) (S.left source.new) (S.faults source.old) (S.faults source.new) e) }
+    ensures unharmed { OnOk result (S.faults source.new ≡ S.faults source.old) }
+    ensures fault { IfErr result (λ e. IsReadFault (seen S.left S.faults source.old source.new) e) }
 {
     let mut chunk = vec![in alloc; 0; CHUNK]?;
     let mut bytes = Bytes::new(alloc);
@@ -76,7 +79,8 @@ fn read_rest<S: Source>(
     ensures count { S.faults source.old ≤ S.faults source.new }
     ensures bound { OnOk result (length bytes.new ≤ read_limit) }
     ensures all { OnOk result (AreAll (S.left source.old) (S.left source.new) bytes.new) }
-    ensures fault { IfErr result (λ e. IsReadFault (S.left source.old) (S.left source.new) (S.faults source.old) (S.faults source.new) e) }
+    ensures unharmed { OnOk result (S.faults source.new ≡ S.faults source.old) }
+    ensures fault { IfErr result (λ e. IsReadFault (seen S.left S.faults source.old source.new) e) }
 {
     'reads: while bytes.len() as usize <= READ_LIMIT {
         let room = chunk.len().min(READ_LIMIT + 1 - bytes.len() as usize);

@@ -1,6 +1,6 @@
 //! Sources and sinks over the readers and writers of std.
 
-ghost use Rattle.std.specs.Prelude.{◌≡◌, ◌≤◌, ◌<◌, None, Ok, length, take, is_ok, IfOk, OnErr, if◌then◌else◌};
+ghost use Rattle.std.specs.Prelude.{◌≡◌, ◌≤◌, ◌<◌, None, Ok, length, take, is_ok, IfOk, OnOk, OnErr, if◌then◌else◌};
 ghost use Rattle.std.specs.Io.KnownBytes.{ReadConsumes, WriteAppends};
 ghost use Rattle.wl_io.specs.Counts.{risen};
 ghost use Rattle.wl_io.specs.Faults.{Rose};
@@ -13,7 +13,8 @@ use std::marker::Model;
 
 /// A source over a reader of std. It doesn't tell its bytes.
 ///
-/// Each error of the reader is a fault, an interrupted call too.
+/// Each failure that it answers counts one fault, and no other answer counts any. It is to fail exactly where
+/// the reader answers an error, an interrupted call too; no contract of a reader says when that is.
 #[derive(Drop)]
 pub struct StdSource<R> {
     reader: R,
@@ -42,12 +43,13 @@ impl<R: Read> Source for StdSource<R> {
 
     ghost faults = { λ s. s.faults };
 
-    /// Reads once. `Failed` comes exactly where the reader answers an error, and counts one fault.
+    /// Reads once. `Failed` counts one fault, and Ok none.
     fn read(&mut self, buf: &mut [u8]) -> Result<usize, Failed>
         ensures count { self.old.faults ≤ self.new.faults }
         ensures bound { IfOk result (λ n. n ≤ length buf.new) }
         ensures handed { IfOk result (λ n. Hands None None (take n buf.new)) }
         ensures end { result ≡ Ok 0 → 0 < length buf.new → IsEnd None }
+        ensures unharmed { OnOk result (self.new.faults ≡ self.old.faults) }
         ensures failed { OnErr result (Rose self.old.faults self.new.faults) }
         ensures kept { OnErr result (⟦<StdSource<R> as Source>⟧.left self.new ≡ ⟦<StdSource<R> as Source>⟧.left self.old) }
 
@@ -67,8 +69,9 @@ impl<R: Read> Source for StdSource<R> {
 
 /// A sink over a writer of std. It doesn't tell its bytes.
 ///
-/// Each error of the writer is a fault, an interrupted call too, and so is a write that takes
-/// nothing of a piece that isn't empty. It never flushes: hand in `&mut writer` to flush it later.
+/// Each failure that it answers counts one fault, and no other answer counts any. A write that takes nothing of
+/// a piece that isn't empty is a failure; an error of the writer is to be one, an interrupted call too, but no
+/// contract of a writer says when that is. It never flushes: hand in `&mut writer` to flush it later.
 #[derive(Drop)]
 pub struct StdSink<W> {
     writer: W,
@@ -97,13 +100,13 @@ impl<W: Write> Sink for StdSink<W> {
 
     ghost faults = { λ s. s.faults };
 
-    /// Writes once. `Failed` comes where the writer answers an error or takes nothing, and counts
-    /// one fault.
+    /// Writes once. `Failed` counts one fault, and Ok none. Ok took something, unless the piece is empty.
     fn write(&mut self, piece: &[u8]) -> Result<usize, Failed>
         ensures count { self.old.faults ≤ self.new.faults }
         ensures bound { IfOk result (λ n. n ≤ length piece.now) }
         ensures progress { IfOk result (λ n. 0 < length piece.now → 0 < n) }
         ensures took { IfOk result (λ n. Takes None None (take n piece.now)) }
+        ensures unharmed { OnOk result (self.new.faults ≡ self.old.faults) }
         ensures failed { OnErr result (Rose self.old.faults self.new.faults) }
         ensures kept { OnErr result (⟦<StdSink<W> as Sink>⟧.taken self.new ≡ ⟦<StdSink<W> as Sink>⟧.taken self.old) }
 

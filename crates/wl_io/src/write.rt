@@ -1,8 +1,8 @@
 //! Writing all of some bytes to a sink.
 
 ghost use Rattle.std.specs.Prelude.{◌≤◌, OnOk, IfErr};
-ghost use Rattle.wl_io.specs.Sink.{Takes};
-ghost use Rattle.wl_io.specs.Writing.{IsWriteFault};
+ghost use Rattle.wl_io.specs.Seen.{seen};
+ghost use Rattle.wl_io.specs.Writing.{IsWriteFault, IsWritten};
 
 use crate::traits::Sink;
 
@@ -16,11 +16,11 @@ pub struct WriteFault {
 /// Hands all bytes to the sink, in order. It takes no memory.
 ///
 /// `WriteFault` comes only where the sink's count of faults rose; the sink then took the first
-/// `taken` bytes. It makes at most one call a byte.
+/// `taken` bytes. Ok leaves that count as it was. It makes at most one call a byte.
 pub fn write_all<K: Sink>(sink: &mut K, bytes: &[u8]) -> Result<(), WriteFault>
     ensures count { K.faults sink.old ≤ K.faults sink.new }
-    ensures ok { OnOk result (Takes (K.taken sink.old) (K.taken sink.new) bytes.now) }
-    ensures fault { IfErr result (λ f. IsWriteFault (K.taken sink.old) (K.taken sink.new) (K.faults sink.old) (K.faults sink.new) bytes.now f.taken) }
+    ensures ok { OnOk result (IsWritten (seen K.taken K.faults sink.old sink.new) bytes.now) }
+    ensures fault { IfErr result (λ f. IsWriteFault (seen K.taken K.faults sink.old sink.new) bytes.now f.taken) }
 {
     let mut taken = 0;
     'writes: while taken < bytes.len() {

@@ -1,8 +1,8 @@
 -- The bits of control words.
 use Rattle.std.proofs.Common.{◌≡◌, ℕ, ◌+◌, ◌*◌, ◌/◌, ◌%◌, ◌<◌, Bool, arith}
-use Rattle.wl_mle.specs.Fields.{bit, has_bit}
 use Rattle.wl_mle.specs.Layout.{basic_spare, reconf_spare}
-use Rattle.wl_mle.proofs.Numbers.{bit_of, test_of, bit_small}
+use Rattle.wl_elem.specs.Bits.{bit, has_bit}
+use Rattle.wl_elem.proofs.Numbers.{bit_of, test_of, bit_small}
 
 -- a bit of a word is 0 or 1
 pub bit_is : (word weight : ℕ) → bit (has_bit word weight) ≡ word / weight % 2

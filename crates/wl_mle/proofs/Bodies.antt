@@ -11,13 +11,14 @@ use Rattle.wl_elem.specs.declared.block.Stop.TheVariants as stops
 use Rattle.wl_elem.specs.declared.item.Item.{Item}
 use Rattle.wl_elem.specs.Answers.{refusal_at, Answers}
 use Rattle.wl_elem.specs.Row.{row_text, IsCutOff}
-use Rattle.wl_elem.specs.Block.{IsStopped, IsStoppedAs, IsWithin}
+use Rattle.wl_elem.specs.Block.{IsStopped, IsStoppedAs}
 use Rattle.wl_elem.specs.Items.{Items}
 use Rattle.wl_mle.specs.declared.multi_link.MultiLink.{MultiLink}
-use Rattle.wl_mle.specs.Fields.{has_bit, need, info_fault, behind_info}
-use Rattle.wl_mle.specs.Layout.{basic_slots, reconf_slots}
-use Rattle.wl_mle.specs.MultiLink.{basic_fault, reconf_fault, CutRefused}
+use Rattle.wl_mle.specs.Fields.{need, info_fault, behind_info}
+use Rattle.wl_mle.specs.Layout.{basic_slots}
+use Rattle.wl_mle.specs.MultiLink.{basic_fault, CutRefused}
 use Rattle.wl_mle.specs.Reading.{ReadsSubs, ReadsBehind}
+use Rattle.wl_elem.specs.Bits.{has_bit}
 
 abbrev failed : Fault → Result MultiLink Fault
 failed fault = Err fault
@@ -29,10 +30,6 @@ behind_within (len ∷ rest) = omega (arith, length-drop (len - 1) rest)
 -- no more is left than there was
 pub left_within : (octets : List ℕ) (left : ℕ) (why : Why) → IsCutOff Subelements false octets left why → left ≤ length octets
 left_within octets left why h = omega (arith, h.counted, ap length h.split, length-append (row_text h.row) h.rest)
-
-pub stop_within : (rest : List ℕ) (stop : Stop) → IsStopped Subelements (behind_info rest) stop → IsWithin (length rest + 2) stop
-stop_within rest (stops.CutOff left why) stopped = omega (arith, left_within (behind_info rest) left why stopped, behind_within rest)
-stop_within rest stops.Memory stopped = tt
 
 -- the subelements are refused
 pub stopped_at : (found : Option Refusal) (make : List Item → Result MultiLink Refusal) (rest : List ℕ) (stop : Stop) (fault : Fault) → found ≡ None
@@ -53,6 +50,3 @@ made_of found make rest list reading none cut same = subst (λ (o : Option Refus
 -- Common Info passes its tests
 pub basic_sound : (control : ℕ) (rest : List ℕ) → info_fault CommonShort CommonLong (need (basic_slots control)) rest ≡ None → (has_bit control 0x10 && eqb (get_or rest 7 0 % 16) 15) ≡ false → basic_fault control rest ≡ None
 basic_sound control rest h k = rw (h, k) refl
-
-pub reconf_sound : (control : ℕ) (rest : List ℕ) → info_fault CommonShort CommonLong (need (reconf_slots control)) rest ≡ None → reconf_fault control rest ≡ None
-reconf_sound control rest h = rw h refl

@@ -10,19 +10,21 @@ use Rattle.wl_mle.specs.declared.basic.Basic.{Basic}
 use Rattle.wl_mle.specs.declared.basic.BasicSub.{BasicSub}
 use Rattle.wl_mle.specs.declared.reconf.Reconf.{Reconf}
 use Rattle.wl_mle.specs.declared.reconf.ReconfSub.{ReconfSub}
-use Rattle.wl_mle.specs.Fields.{info, info_text, need, info_fault, behind_info, has_bit, field}
+use Rattle.wl_mle.specs.Fields.{info, info_text, need, info_fault, behind_info, IsShort, at_info, area_of}
 use Rattle.wl_mle.specs.Layout.{basic_slots, reconf_slots, basic_fields, reconf_fields, basic_control, reconf_control}
-use Rattle.wl_mle.specs.MultiLink.{IsShort, IsBasicSub, IsReconfSub, IsBasic, IsReconf, at_common, own_link_fault, basic_fault, reconf_fault}
-use Rattle.wl_mle.specs.Reading.{fields_at, after_fields, area_of, number_in, common_of, basic_of, reconf_of, common_at, reconf_at}
-use Rattle.wl_mle.proofs.Numbers.{IsOctets}
+use Rattle.wl_mle.specs.MultiLink.{IsBasicSub, IsReconfSub, IsBasic, IsReconf, own_link_fault, basic_fault, reconf_fault}
+use Rattle.wl_mle.specs.Reading.{fields_at, after_fields, common_of, basic_of, reconf_of, common_at, reconf_at}
 use Rattle.wl_mle.proofs.Infos.{IsFilled, Filled, AllIn, fields_filled, fields_in, field_filled, mac_filled, number_again, number_read, mac_some, mac_read, sound_read, sound_again}
 use Rattle.wl_mle.proofs.Bits.{IsBasicWord, basic_bits, basic_made, IsReconfWord, reconf_bits, reconf_made}
 use Rattle.wl_mle.proofs.Shared.{filled_at, read_again, free_again, free_read}
+use Rattle.wl_elem.specs.Bits.{has_bit}
+use Rattle.wl_elem.specs.Fields.{number_field, number_in}
+use Rattle.wl_elem.proofs.Octets.{IsOctets}
 
-two_pass : (info_test : Option Why) (own : Option Refusal) → info_test ≡ None → own ≡ None → at_common info_test own ≡ None
+two_pass : (info_test : Option Why) (own : Option Refusal) → info_test ≡ None → own ≡ None → at_info info_test own ≡ None
 two_pass info_test own p q = rw (p, q) refl
 
-both_pass : (info_test : Option Why) (own : Option Refusal) → at_common info_test own ≡ None → (info_test ≡ None) × (own ≡ None)
+both_pass : (info_test : Option Why) (own : Option Refusal) → at_info info_test own ≡ None → (info_test ≡ None) × (own ≡ None)
 both_pass (Some why) own h = absurd (cc h)
 both_pass None own h = (refl, h)
 
@@ -36,13 +38,13 @@ basic_filled b is =
     let w = basic_word_of b is in
     let c = b.common in
     let s0 : IsFilled true 6 (Some c.mld) = (refl, is.mld) in
-    let s1 = filled_at _ (is_some c.link) 1 (field 1 c.link) w.b4 (field_filled 1 c.link) in
-    let s2 = filled_at _ (is_some c.count) 1 (field 1 c.count) w.b5 (field_filled 1 c.count) in
-    let s3 = filled_at _ (is_some c.sync) 2 (field 2 c.sync) w.b6 (field_filled 2 c.sync) in
-    let s4 = filled_at _ (is_some c.eml) 2 (field 2 c.eml) w.b7 (field_filled 2 c.eml) in
-    let s5 = filled_at _ (is_some c.caps) 2 (field 2 c.caps) w.b8 (field_filled 2 c.caps) in
-    let s6 = filled_at _ (is_some c.apid) 1 (field 1 c.apid) w.b9 (field_filled 1 c.apid) in
-    let s7 = filled_at _ (is_some c.ext) 2 (field 2 c.ext) w.b10 (field_filled 2 c.ext) in
+    let s1 = filled_at _ (is_some c.link) 1 (number_field 1 c.link) w.b4 (field_filled 1 c.link) in
+    let s2 = filled_at _ (is_some c.count) 1 (number_field 1 c.count) w.b5 (field_filled 1 c.count) in
+    let s3 = filled_at _ (is_some c.sync) 2 (number_field 2 c.sync) w.b6 (field_filled 2 c.sync) in
+    let s4 = filled_at _ (is_some c.eml) 2 (number_field 2 c.eml) w.b7 (field_filled 2 c.eml) in
+    let s5 = filled_at _ (is_some c.caps) 2 (number_field 2 c.caps) w.b8 (field_filled 2 c.caps) in
+    let s6 = filled_at _ (is_some c.apid) 1 (number_field 1 c.apid) w.b9 (field_filled 1 c.apid) in
+    let s7 = filled_at _ (is_some c.ext) 2 (number_field 2 c.ext) w.b10 (field_filled 2 c.ext) in
     (s0, (s1, (s2, (s3, (s4, (s5, (s6, (s7, tt))))))))
 
 common_same : (b : Basic) → IsBasic b → common_of (basic_fields b.common) b.common.tail ≡ b.common
@@ -67,10 +69,10 @@ basic_again b is subs =
     let c = b.common in
     let filled = basic_filled b is in
     let rest = info (basic_fields c) c.tail ++ subs in
-    let free : IfSome (number_in (field 1 c.link)) (λ n. n % 16 ≢ 15) = subst (λ (o : Option ℕ). IfSome o (λ n. n % 16 ≢ 15)) (sym (number_again 1 c.link is.link)) is.free in (
+    let free : IfSome (number_in (number_field 1 c.link)) (λ n. n % 16 ≢ 15) = subst (λ (o : Option ℕ). IfSome o (λ n. n % 16 ≢ 15)) (sym (number_again 1 c.link is.link)) is.free in (
       two_pass (info_fault CommonShort CommonLong (need (basic_slots (basic_control b))) rest) (own_link_fault (has_bit (basic_control b) 0x10) (get_or rest 7 0))
           (sound_again CommonShort CommonLong (basic_slots (basic_control b)) (basic_fields c) c.tail subs filled)
-          (free_again (has_bit (basic_control b) 0x10) c.mld (field 1 c.link) (drop 2 (basic_fields c)) c.tail subs is.mld filled.1.0 free),
+          (free_again (has_bit (basic_control b) 0x10) c.mld (number_field 1 c.link) (drop 2 (basic_fields c)) c.tail subs is.mld filled.1.0 free),
       read_again (basic_slots (basic_control b)) (basic_fields c) c.tail subs (λ fields tail _. common_of fields tail) filled ∙ common_same b is,
     )
 
@@ -142,9 +144,9 @@ reconf_filled : (r : Reconf) → IsReconf r → Filled (reconf_slots (reconf_con
 reconf_filled r is =
     let w = reconf_word_of r is in
     let s0 = filled_at _ (is_some r.mld) 6 r.mld w.b4 (mac_filled r.mld is.mld) in
-    let s1 = filled_at _ (is_some r.eml) 2 (field 2 r.eml) w.b5 (field_filled 2 r.eml) in
-    let s2 = filled_at _ (is_some r.caps) 2 (field 2 r.caps) w.b6 (field_filled 2 r.caps) in
-    let s3 = filled_at _ (is_some r.ext) 2 (field 2 r.ext) w.b7 (field_filled 2 r.ext) in
+    let s1 = filled_at _ (is_some r.eml) 2 (number_field 2 r.eml) w.b5 (field_filled 2 r.eml) in
+    let s2 = filled_at _ (is_some r.caps) 2 (number_field 2 r.caps) w.b6 (field_filled 2 r.caps) in
+    let s3 = filled_at _ (is_some r.ext) 2 (number_field 2 r.ext) w.b7 (field_filled 2 r.ext) in
     (s0, (s1, (s2, (s3, tt))))
 
 reconf_same : (r : Reconf) → IsReconf r → reconf_of (reconf_control r) (reconf_fields r) r.tail r.subs ≡ r

@@ -6,10 +6,12 @@ use Rattle.std.proofs.lemmas.List.{take_at, drop_at, take-append-drop, length-ap
 use Rattle.std.proofs.Common.{length-drop}
 use Rattle.wl_elem.specs.declared.why.Why.{Why}
 use Rattle.wl_elem.specs.Octets.{number, octets_of}
-use Rattle.wl_mle.specs.Fields.{field, Fits, known, info, need, info_fault, behind_info}
-use Rattle.wl_mle.specs.MultiLink.{IsShort, IsAddress}
-use Rattle.wl_mle.specs.Reading.{fields_at, after_fields, area_of, number_in}
-use Rattle.wl_mle.proofs.Numbers.{IsOctets, IsOctets-drop, IsOctets-take, length-octets_of, number-octets_of, octets_of-number, number-below}
+use Rattle.wl_mle.specs.Fields.{known, info, need, info_fault, behind_info, IsShort, area_of}
+use Rattle.wl_mle.specs.MultiLink.{IsAddress}
+use Rattle.wl_mle.specs.Reading.{fields_at, after_fields}
+use Rattle.wl_elem.specs.Fields.{number_field, Fits, number_in}
+use Rattle.wl_elem.proofs.Octets.{IsOctets, IsOctets-drop, IsOctets-take}
+use Rattle.wl_elem.proofs.Numbers.{length-octets_of, number-octets_of, octets_of-number, number-below}
 
 -- ---- fields and slots
 
@@ -76,7 +78,7 @@ fields_in ((false, width) ∷ slots) octets is = (tt, fields_in slots octets is)
 
 -- ---- one field
 
-pub field_filled : (width : ℕ) (v : Option ℕ) → IsFilled (is_some v) width (field width v)
+pub field_filled : (width : ℕ) (v : Option ℕ) → IsFilled (is_some v) width (number_field width v)
 field_filled width None = refl
 field_filled width (Some n) = (refl, length-octets_of width n)
 
@@ -84,13 +86,13 @@ pub mac_filled : (v : Option (List ℕ)) → IfSome v IsAddress → IsFilled (is
 mac_filled None h = refl
 mac_filled (Some octets) h = (refl, h)
 
-pub number_again : (width : ℕ) (v : Option ℕ) → Fits width v → number_in (field width v) ≡ v
+pub number_again : (width : ℕ) (v : Option ℕ) → Fits width v → number_in (number_field width v) ≡ v
 number_again width None fits = refl
 number_again width (Some n) fits = ap (λ (x : ℕ). Some x) (number-octets_of width n fits)
 
 -- a number that is read
 pub record IsNumber (there : Bool) (width : ℕ) (f : Option (List ℕ)) : Type 0 where
-  pub same : field width (number_in f) ≡ f
+  pub same : number_field width (number_in f) ≡ f
   pub fits : Fits width (number_in f)
   pub some : is_some (number_in f) ≡ there
 

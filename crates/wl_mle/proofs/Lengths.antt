@@ -6,6 +6,7 @@ use Rattle.std.proofs.lemmas.Bool.{le-leb, lt-leb}
 use Rattle.std.proofs.Math.Seq.{take-suc}
 use Rattle.wl_elem.specs.declared.kind.ListKind.TheVariants.{Subelements}
 use Rattle.wl_elem.specs.declared.item.Item.{Item}
+use Rattle.wl_elem.specs.Element.{body_limit}
 use Rattle.wl_elem.specs.Octets.{octets_of}
 use Rattle.wl_elem.specs.Items.{IsItem, Items, written_len, items_len}
 use Rattle.wl_mle.specs.declared.basic.BasicSub.{BasicSub}
@@ -16,14 +17,13 @@ use Rattle.wl_mle.specs.declared.profile.Profile.{Profile}
 use Rattle.wl_mle.specs.declared.change.LinkChange.{LinkChange}
 use Rattle.wl_mle.specs.declared.multi_link.MultiLink.{MultiLink}
 use Rattle.wl_mle.specs.declared.multi_link.MultiLink.TheVariants as elements
-use Rattle.wl_mle.specs.Fields.{known, info, info_text}
+use Rattle.wl_mle.specs.Fields.{known, info, info_text, known_len}
 use Rattle.wl_mle.specs.Layout.{basic_fields, reconf_fields, profile_fields, change_fields, basic_control, reconf_control, profile_control, change_control}
 use Rattle.wl_mle.specs.MultiLink.{basic_sub, IsBasicSub, reconf_sub, IsReconfSub, IsMultiLink, subs_of, spelling, profile_text, change_text, IsWritable}
-use Rattle.wl_mle.specs.Writing.{known_len}
-use Rattle.wl_mle.specs.Fitting.{value_len}
-use Rattle.wl_mle.proofs.Numbers.{length-octets_of}
+use Rattle.wl_mle.specs.Writing.{value_len}
 use Rattle.wl_mle.proofs.Subelements.{SpellsAll, SpellsSoLong}
 use Rattle.wl_mle.proofs.Writing.{known_length}
+use Rattle.wl_elem.proofs.Numbers.{length-octets_of}
 
 -- ---- pieces
 
@@ -68,12 +68,12 @@ value_exists law (elements.Reconfiguration r) is = law Subelements (map reconf_s
 value_exists law (elements.Other control body) is = ([], refl)
 
 -- a value that isn't too long is written
-pub is_writable : SpellsAll → SpellsSoLong → (value : MultiLink) → IsMultiLink value → value_len value ≤ 16777216 → IsWritable value
+pub is_writable : SpellsAll → SpellsSoLong → (value : MultiLink) → IsMultiLink value → value_len value ≤ body_limit → IsWritable value
 is_writable all long value is fits =
     let subs = value_exists all value is in
     (spelling value subs.0, omega (arith, fits, spelling_length long value subs.0 subs.1), record { is_value = is; subs = subs.0; cut = subs.1; text = refl })
 
-pub is_not_too_long : SpellsSoLong → (value : MultiLink) → IsWritable value → value_len value ≤ 16777216
+pub is_not_too_long : SpellsSoLong → (value : MultiLink) → IsWritable value → value_len value ≤ body_limit
 is_not_too_long long value (body, fits, of) = omega (arith, fits, ap length of.text, spelling_length long value of.subs of.cut)
 
 -- ---- the loops

@@ -2,7 +2,7 @@ pub mod Bits
 pub mod Bodies
 pub mod CommonLayouts
 pub mod Infos
-pub mod Numbers
+pub mod Words
 pub mod Once
 pub mod ProfileLayouts
 pub mod Profiles

@@ -23,8 +23,10 @@ use Rattle.wl_mle.proofs.Bodies.{left_within, behind_within, made_of}
 use Rattle.wl_mle.proofs.CommonLayouts.{basic_word_of, basic_again, basic_read, reconf_word_of, reconf_again, reconf_read}
 use Rattle.wl_mle.proofs.Infos.{behind_again}
 use Rattle.wl_mle.proofs.Subelements.{CutsInOneWay, CutsOrRefuses, CutsOctets, SpellsOnce, are_subs}
-use Rattle.wl_mle.proofs.Numbers.{IsOctets, IsOctets-drop, word_again, word_text, word_below, length-octets_of}
 use Rattle.wl_mle.proofs.SubLists.{list_passes, list_again, list_is, list_text, basic_sub_passes, basic_sub_again, basic_sub_is, basic_sub_text, reconf_sub_passes, reconf_sub_again, reconf_sub_is, reconf_sub_text}
+use Rattle.wl_elem.proofs.Octets.{IsOctets, IsOctets-drop}
+use Rattle.wl_mle.proofs.Words.{word_again, word_text, word_below}
+use Rattle.wl_elem.proofs.Numbers.{length-octets_of}
 
 -- ---- what is written is read so
 

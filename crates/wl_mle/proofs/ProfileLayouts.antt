@@ -1,18 +1,18 @@
 -- The layouts of profiles: what is read is what was written, and what was written is read again.
-use Rattle.std.proofs.Common.{◌≡◌, ◌≢◌, ℕ, ◌%◌, ◌<◌, Bool, List, [], ◌∷◌, ◌++◌, drop, Option, None, refl, sym, ap, subst, ◌∙◌, arith}
+use Rattle.std.proofs.Common.{◌≡◌, ◌≢◌, ℕ, ◌%◌, ◌<◌, Bool, List, [], ◌∷◌, drop, Option, None, refl, sym, subst, arith}
 use Rattle.std.specs.Prelude.{is_some, ◌&&◌}
-use Rattle.wl_elem.specs.declared.why.Why.TheVariants.{InfoShort, InfoLong}
-use Rattle.wl_elem.specs.Octets.{octets_of}
 use Rattle.wl_mle.specs.declared.profile.Profile.{Profile}
 use Rattle.wl_mle.specs.declared.change.LinkChange.{LinkChange}
-use Rattle.wl_mle.specs.Fields.{info, info_text, behind_info, has_bit, field, word_of}
+use Rattle.wl_mle.specs.Fields.{word_of, IsShort}
 use Rattle.wl_mle.specs.Layout.{profile_slots, change_slots, nstr_width, profile_fields, change_fields, profile_control, change_control}
-use Rattle.wl_mle.specs.MultiLink.{IsShort, profile_text, IsProfile, change_text, IsChange, profile_fault}
-use Rattle.wl_mle.specs.Reading.{fields_at, after_fields, area_of, profile_of, change_of, profile_behind, change_behind}
-use Rattle.wl_mle.proofs.Numbers.{IsOctets, IsOctets-drop, word_again, word_text, word_below}
-use Rattle.wl_mle.proofs.Infos.{IsFilled, Filled, AllIn, fields_filled, fields_in, field_filled, mac_filled, number_again, number_read, mac_some, mac_read, sound_read}
+use Rattle.wl_mle.specs.MultiLink.{profile_text, IsProfile, change_text, IsChange, profile_fault}
+use Rattle.wl_mle.specs.Reading.{profile_of, change_of, profile_behind, change_behind}
+use Rattle.wl_mle.proofs.Infos.{IsFilled, Filled, AllIn, field_filled, mac_filled, number_again, number_read, mac_some, mac_read}
 use Rattle.wl_mle.proofs.Bits.{IsProfileWord, profile_bits, profile_made, IsChangeWord, change_bits, change_made}
-use Rattle.wl_mle.proofs.Shared.{filled_at, read_again, profile_passes, passed}
+use Rattle.wl_mle.proofs.Shared.{filled_at, sta_again, IsMade, sta_read}
+use Rattle.wl_elem.specs.Bits.{has_bit}
+use Rattle.wl_elem.specs.Fields.{number_field}
+use Rattle.wl_elem.proofs.Octets.{IsOctets}
 
 -- ---- Basic
 
@@ -22,14 +22,14 @@ profile_word_of p is = profile_bits p.link p.complete (is_some p.mac) (is_some p
 profile_filled : (p : Profile) → IsProfile p → Filled (profile_slots (profile_control p)) (profile_fields p)
 profile_filled p is =
     let w = profile_word_of p is in
-    let nstr : IsFilled (p.complete && p.pair) (nstr_width p.wide) (field (nstr_width p.wide) p.nstr)
-    = subst (λ (b : Bool). IsFilled b (nstr_width p.wide) (field (nstr_width p.wide) p.nstr)) is.nstr_there (field_filled (nstr_width p.wide) p.nstr) in
+    let nstr : IsFilled (p.complete && p.pair) (nstr_width p.wide) (number_field (nstr_width p.wide) p.nstr)
+    = subst (λ (b : Bool). IsFilled b (nstr_width p.wide) (number_field (nstr_width p.wide) p.nstr)) is.nstr_there (field_filled (nstr_width p.wide) p.nstr) in
     let s0 = filled_at _ (is_some p.mac) 6 p.mac w.b5 (mac_filled p.mac is.mac) in
-    let s1 = filled_at _ (is_some p.beacon) 2 (field 2 p.beacon) w.b6 (field_filled 2 p.beacon) in
-    let s2 = filled_at _ (is_some p.tsf) 8 (field 8 p.tsf) w.b7 (field_filled 8 p.tsf) in
-    let s3 = filled_at _ (is_some p.dtim) 2 (field 2 p.dtim) w.b8 (field_filled 2 p.dtim) in
-    let s4 : IsFilled (has_bit (profile_control p) 0x10 && has_bit (profile_control p) 0x200) (nstr_width (has_bit (profile_control p) 0x400)) (field (nstr_width p.wide) p.nstr) = rw (w.b4, w.b9, w.b10) nstr in
-    let s5 = filled_at _ (is_some p.count) 1 (field 1 p.count) w.b11 (field_filled 1 p.count) in
+    let s1 = filled_at _ (is_some p.beacon) 2 (number_field 2 p.beacon) w.b6 (field_filled 2 p.beacon) in
+    let s2 = filled_at _ (is_some p.tsf) 8 (number_field 8 p.tsf) w.b7 (field_filled 8 p.tsf) in
+    let s3 = filled_at _ (is_some p.dtim) 2 (number_field 2 p.dtim) w.b8 (field_filled 2 p.dtim) in
+    let s4 : IsFilled (has_bit (profile_control p) 0x10 && has_bit (profile_control p) 0x200) (nstr_width (has_bit (profile_control p) 0x400)) (number_field (nstr_width p.wide) p.nstr) = rw (w.b4, w.b9, w.b10) nstr in
+    let s5 = filled_at _ (is_some p.count) 1 (number_field 1 p.count) w.b11 (field_filled 1 p.count) in
     (s0, (s1, (s2, (s3, (s4, (s5, tt))))))
 
 profile_same : (p : Profile) → IsProfile p → profile_of (profile_control p) (profile_fields p) p.tail p.body ≡ p
@@ -53,21 +53,10 @@ profile_same p is =
 pub profile_again : (p : Profile) → IsProfile p → (profile_fault profile_slots (profile_text p) ≡ None) × (profile_behind (word_of (profile_text p)) (drop 2 (profile_text p)) ≡ p)
 profile_again p is =
     let w = profile_word_of p is in
-    let filled = profile_filled p is in
-    let rest = info (profile_fields p) p.tail ++ p.body in (
-      profile_passes profile_slots (profile_control p) (profile_fields p) p.tail p.body w.below (λ e. omega (arith, e, w.linked, is.link)) filled,
-      ap (λ (n : ℕ). profile_behind n rest) (word_again (profile_control p) rest w.below)
-          ∙ read_again (profile_slots (profile_control p)) (profile_fields p) p.tail p.body (profile_of (profile_control p)) filled
-          ∙ profile_same p is,
-    )
-
-record IsProfileMade (word : ℕ) (fields : List (Option (List ℕ))) (p : Profile) : Type 0 where
-  is : IsProfile p
-  control : profile_control p ≡ word
-  all : profile_fields p ≡ fields
+    sta_again profile_slots profile_of (profile_control p) (profile_fields p) p.tail p.body p w.below (λ e. omega (arith, e, w.linked, is.link)) (profile_filled p is) (profile_same p is)
 
 profile_from : (word : ℕ) (f0 f1 f2 f3 f4 f5 : Option (List ℕ)) (tail body : List ℕ) → word < 65536 → word % 16 ≢ 15 → Filled (profile_slots word) (f0 ∷ f1 ∷ f2 ∷ f3 ∷ f4 ∷ f5 ∷ [])
-    → AllIn (f0 ∷ f1 ∷ f2 ∷ f3 ∷ f4 ∷ f5 ∷ []) → IsShort (f0 ∷ f1 ∷ f2 ∷ f3 ∷ f4 ∷ f5 ∷ []) tail → IsProfileMade word (f0 ∷ f1 ∷ f2 ∷ f3 ∷ f4 ∷ f5 ∷ []) (profile_of word (f0 ∷ f1 ∷ f2 ∷ f3 ∷ f4 ∷ f5 ∷ []) tail body)
+    → AllIn (f0 ∷ f1 ∷ f2 ∷ f3 ∷ f4 ∷ f5 ∷ []) → IsShort (f0 ∷ f1 ∷ f2 ∷ f3 ∷ f4 ∷ f5 ∷ []) tail → IsMade IsProfile profile_control profile_fields word (f0 ∷ f1 ∷ f2 ∷ f3 ∷ f4 ∷ f5 ∷ []) (profile_of word (f0 ∷ f1 ∷ f2 ∷ f3 ∷ f4 ∷ f5 ∷ []) tail body)
 profile_from word f0 f1 f2 f3 f4 f5 tail body lt free filled octets fits =
     let n1 = number_read _ 2 f1 filled.1.0 octets.1.0 in
     let n2 = number_read _ 8 f2 filled.1.1.0 octets.1.1.0 in
@@ -88,31 +77,15 @@ profile_from word f0 f1 f2 f3 f4 f5 tail body lt free filled octets fits =
         count = n5.fits;
         short = subst (λ (fs : List (Option (List ℕ))). IsShort fs tail) (sym all) fits;
       };
-      control = rw (mac_some _ f0 filled.0, n1.some, n2.some, n3.some, n5.some) (profile_made word);
-      all = all;
+      control_is = rw (mac_some _ f0 filled.0, n1.some, n2.some, n3.some, n5.some) (profile_made word);
+      all_are = all;
     }
 
 -- a profile that is read is the one that was written
 pub profile_read : (octets : List ℕ) → IsOctets octets → profile_fault profile_slots octets ≡ None
     → IsProfile (profile_behind (word_of octets) (drop 2 octets)) × (profile_text (profile_behind (word_of octets) (drop 2 octets)) ≡ octets)
 profile_read octets is none =
-    let word = word_of octets in
-    let rest = drop 2 octets in
-    let rest_is = IsOctets-drop 2 octets is in
-    let test = passed profile_slots octets none in
-    let i = sound_read InfoShort InfoLong (profile_slots word) rest test.sound in
-    let area = area_of rest in
-    let fields = fields_at (profile_slots word) area in
-    let tail = after_fields (profile_slots word) area in
-    let body = behind_info rest in
-    let made : IsProfileMade word fields (profile_of word fields tail body)
-    = profile_from word _ _ _ _ _ _ tail body (word_below octets is) test.free (fields_filled (profile_slots word) area i.enough) (fields_in (profile_slots word) area (i.octets rest_is)) (i.short rest_is) in (
-      made.is,
-      ap (λ (n : ℕ). info_text n (profile_fields (profile_of word fields tail body)) tail body) made.control
-          ∙ ap (λ (fs : List (Option (List ℕ))). info_text word fs tail body) made.all
-          ∙ ap (λ (x : List ℕ). octets_of 2 word ++ x) (sym i.text)
-          ∙ sym (word_text octets (omega (arith, test.long)) is),
-    )
+    sta_read profile_slots profile_of IsProfile profile_control profile_fields (λ word area tail body lt free filled each fits. profile_from word _ _ _ _ _ _ tail body lt free filled each fits) octets is none
 
 -- ---- Reconfiguration
 
@@ -123,7 +96,7 @@ change_filled : (c : LinkChange) → IsChange c → Filled (change_slots (change
 change_filled c is =
     let w = change_word_of c is in
     let s0 = filled_at _ (is_some c.mac) 6 c.mac w.b5 (mac_filled c.mac is.mac) in
-    let s1 = filled_at _ (is_some c.timer) 2 (field 2 c.timer) w.b6 (field_filled 2 c.timer) in
+    let s1 = filled_at _ (is_some c.timer) 2 (number_field 2 c.timer) w.b6 (field_filled 2 c.timer) in
     (s0, (s1, tt))
 
 change_same : (c : LinkChange) → IsChange c → change_of (change_control c) (change_fields c) c.tail c.body ≡ c
@@ -135,21 +108,10 @@ change_same c is =
 pub change_again : (c : LinkChange) → IsChange c → (profile_fault change_slots (change_text c) ≡ None) × (change_behind (word_of (change_text c)) (drop 2 (change_text c)) ≡ c)
 change_again c is =
     let w = change_word_of c is in
-    let filled = change_filled c is in
-    let rest = info (change_fields c) c.tail ++ c.body in (
-      profile_passes change_slots (change_control c) (change_fields c) c.tail c.body w.below (λ e. omega (arith, e, w.linked, is.link)) filled,
-      ap (λ (n : ℕ). change_behind n rest) (word_again (change_control c) rest w.below)
-          ∙ read_again (change_slots (change_control c)) (change_fields c) c.tail c.body (change_of (change_control c)) filled
-          ∙ change_same c is,
-    )
-
-record IsChangeMade (word : ℕ) (fields : List (Option (List ℕ))) (c : LinkChange) : Type 0 where
-  is : IsChange c
-  control : change_control c ≡ word
-  all : change_fields c ≡ fields
+    sta_again change_slots change_of (change_control c) (change_fields c) c.tail c.body c w.below (λ e. omega (arith, e, w.linked, is.link)) (change_filled c is) (change_same c is)
 
 change_from : (word : ℕ) (f0 f1 : Option (List ℕ)) (tail body : List ℕ) → word < 65536 → word % 16 ≢ 15 → Filled (change_slots word) (f0 ∷ f1 ∷ [])
-    → AllIn (f0 ∷ f1 ∷ []) → IsShort (f0 ∷ f1 ∷ []) tail → IsChangeMade word (f0 ∷ f1 ∷ []) (change_of word (f0 ∷ f1 ∷ []) tail body)
+    → AllIn (f0 ∷ f1 ∷ []) → IsShort (f0 ∷ f1 ∷ []) tail → IsMade IsChange change_control change_fields word (f0 ∷ f1 ∷ []) (change_of word (f0 ∷ f1 ∷ []) tail body)
 change_from word f0 f1 tail body lt free filled octets fits =
     let n1 = number_read _ 2 f1 filled.1.0 octets.1.0 in
     let all : change_fields (change_of word (f0 ∷ f1 ∷ []) tail body) ≡ f0 ∷ f1 ∷ [] = rw n1.same refl in
@@ -162,28 +124,12 @@ change_from word f0 f1 tail body lt free filled octets fits =
         timer = n1.fits;
         short = subst (λ (fs : List (Option (List ℕ))). IsShort fs tail) (sym all) fits;
       };
-      control = rw (mac_some _ f0 filled.0, n1.some) (change_made word);
-      all = all;
+      control_is = rw (mac_some _ f0 filled.0, n1.some) (change_made word);
+      all_are = all;
     }
 
 -- a profile that is read is the one that was written
 pub change_read : (octets : List ℕ) → IsOctets octets → profile_fault change_slots octets ≡ None
     → IsChange (change_behind (word_of octets) (drop 2 octets)) × (change_text (change_behind (word_of octets) (drop 2 octets)) ≡ octets)
 change_read octets is none =
-    let word = word_of octets in
-    let rest = drop 2 octets in
-    let rest_is = IsOctets-drop 2 octets is in
-    let test = passed change_slots octets none in
-    let i = sound_read InfoShort InfoLong (change_slots word) rest test.sound in
-    let area = area_of rest in
-    let fields = fields_at (change_slots word) area in
-    let tail = after_fields (change_slots word) area in
-    let body = behind_info rest in
-    let made : IsChangeMade word fields (change_of word fields tail body)
-    = change_from word _ _ tail body (word_below octets is) test.free (fields_filled (change_slots word) area i.enough) (fields_in (change_slots word) area (i.octets rest_is)) (i.short rest_is) in (
-      made.is,
-      ap (λ (n : ℕ). info_text n (change_fields (change_of word fields tail body)) tail body) made.control
-          ∙ ap (λ (fs : List (Option (List ℕ))). info_text word fs tail body) made.all
-          ∙ ap (λ (x : List ℕ). octets_of 2 word ++ x) (sym i.text)
-          ∙ sym (word_text octets (omega (arith, test.long)) is),
-    )
+    sta_read change_slots change_of IsChange change_control change_fields (λ word area tail body lt free filled each fits. change_from word _ _ tail body lt free filled each fits) octets is none

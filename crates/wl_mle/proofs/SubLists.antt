@@ -3,7 +3,6 @@ use Rattle.std.proofs.Common.{◌≡◌, ℕ, suc, Bool, true, false, cond, eqb,
 use Rattle.std.specs.Prelude.{map}
 use Rattle.std.specs.List.{AllByRecursion}
 use Rattle.std.proofs.lemmas.Bool.{eqb-true, eqb-false, ne_eqb}
-use Rattle.wl_elem.specs.declared.why.Why.{Why}
 use Rattle.wl_elem.specs.declared.fault.Refusal.{Refusal}
 use Rattle.wl_elem.specs.declared.item.Item.{Item}
 use Rattle.wl_mle.specs.declared.basic.BasicSub.{BasicSub}
@@ -29,8 +28,8 @@ pub list_again : {V : Type 0} (to : V → Item) (from : Item → V) (Is : V → 
 list_again to from Is one [] each = refl
 list_again {V} to from Is one (v ∷ list) each = ap (λ (x : V). x ∷ map from (map to list)) (one v each.0) ∙ ap (λ (xs : List V). v ∷ xs) (list_again to from Is one list each.1)
 
-first_none : (sub : ℕ) (found : Option (ℕ × Why)) (others : Option Refusal) → first_refused sub found others ≡ None → (found ≡ None) × (others ≡ None)
-first_none sub (Some fault) others h = absurd (cc h)
+first_none : (sub : ℕ) (found : Option Refusal) (others : Option Refusal) → first_refused sub found others ≡ None → (found ≡ None) × (others ≡ None)
+first_none sub (Some refusal) others h = absurd (cc h)
 first_none sub None others h = (refl, h)
 
 pub list_is : {V : Type 0} (slots : ℕ → List (Bool × ℕ)) (from : Item → V) (Is : V → Type 0) → ((s : Item) → IsSub s → sub_fault slots s ≡ None → Is (from s))

@@ -8,7 +8,7 @@ use Rattle.wl_elem.specs.declared.kind.ListKind.TheVariants.{Subelements}
 use Rattle.wl_elem.specs.declared.item.Item.{Item}
 use Rattle.wl_elem.specs.Items.{IsItem, Items, CutOrRefused, IsOfOctets, items_len}
 use Rattle.wl_elem.specs.Row.{IsCutOff}
-use Rattle.wl_mle.proofs.Numbers.{IsOctets}
+use Rattle.wl_elem.proofs.Octets.{IsOctets}
 
 -- ---- the laws
 

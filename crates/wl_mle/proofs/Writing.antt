@@ -5,21 +5,19 @@ use Rattle.std.proofs.Math.Seq.{take-suc}
 use Rattle.std.proofs.lemmas.List.{append-nil}
 use Rattle.wl_elem.specs.declared.kind.ListKind.TheVariants.{Subelements}
 use Rattle.wl_elem.specs.declared.item.Item.{Item}
+use Rattle.wl_elem.specs.Element.{body_limit}
 use Rattle.wl_elem.specs.Octets.{octets_of}
 use Rattle.wl_elem.specs.Items.{Items, AddsItem}
 use Rattle.wl_mle.specs.declared.basic.Basic.{Basic}
 use Rattle.wl_mle.specs.declared.reconf.Reconf.{Reconf}
 use Rattle.wl_mle.specs.declared.multi_link.MultiLink.{MultiLink}
 use Rattle.wl_mle.specs.declared.multi_link.MultiLink.TheVariants as elements
-use Rattle.wl_mle.specs.Fields.{known, info}
+use Rattle.wl_mle.specs.Fields.{known, info, known_len}
 use Rattle.wl_mle.specs.Layout.{basic_fields, reconf_fields, basic_control, reconf_control}
 use Rattle.wl_mle.specs.MultiLink.{basic_sub, reconf_sub, IsBasic, IsReconf, IsOther, IsMultiLink, MlOf, IsWritable}
-use Rattle.wl_mle.specs.Writing.{known_len, AddsSubs}
+use Rattle.wl_mle.specs.Writing.{AddsSubs}
 
 -- ---- lists
-
-pub subs_none : (old : List ℕ) → AddsSubs [] old old
-subs_none old = ([], refl, sym (append-nil old))
 
 Subs-append : (xs ys : List Item) (a b : List ℕ) → Items Subelements xs a → Items Subelements ys b → Items Subelements (xs ++ ys) (a ++ b)
 Subs-append [] ys a b p q = subst (λ (x : List ℕ). Items Subelements ys x) (ap (λ (x : List ℕ). x ++ b) (sym p)) q
@@ -47,6 +45,11 @@ known_length [] = refl
 known_length (None ∷ fields) = omega (arith, known_length fields)
 known_length (Some octets ∷ fields) = omega (arith, length-append octets (known fields), known_length fields)
 
+-- a control word and an Info field put one after the other
+pub info_put : (old : List ℕ) (word control len : ℕ) (fields : List (Option (List ℕ))) (tail shown a b c d : List ℕ) → control ≡ word → shown ≡ tail → len ≡ suc (length (known fields) + length tail)
+    → a ≡ old ++ octets_of 2 control → b ≡ a ++ len ∷ [] → c ≡ b ++ known fields → d ≡ c ++ shown → d ≡ old ++ (octets_of 2 word ++ info fields tail)
+info_put old word control len fields tail shown a b c d same seen counted p q r s = rw (s, r, q, p, same, seen, counted) (simp append_assoc)
+
 -- the head and the subelements are the body
 pub basic_made : (b : Basic) (head body : List ℕ) → IsBasic b → head ≡ octets_of 2 (basic_control b) ++ info (basic_fields b.common) b.common.tail → AddsSubs (map basic_sub b.subs) head body → MlOf (elements.Basic b) body
 basic_made b head body is text (subs, cut, added) =
@@ -67,5 +70,5 @@ abbrev pub OneBody : Type 0
 OneBody = (value : MultiLink) (body other : List ℕ) → MlOf value body → MlOf value other → body ≡ other
 
 -- no other body is longer than an element's may be
-pub is_within : OneBody → (value : MultiLink) (body : List ℕ) → IsWritable value → MlOf value body → length body ≤ 16777216
+pub is_within : OneBody → (value : MultiLink) (body : List ℕ) → IsWritable value → MlOf value body → length body ≤ body_limit
 is_within one value body (other, fits, of) is = omega (arith, fits, ap length (one value body other is of))

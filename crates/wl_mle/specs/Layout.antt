@@ -38,13 +38,15 @@
 -- the others in their places (0xf808, 0xff08). Control of a profile: link ID B0 to B3, complete B4,
 -- the bits above, `spare` B12 to B15; of a Reconfiguration profile also the operation B7 to B10 and
 -- operation parameters present B11.
-use Rattle.std.specs.Prelude.{ℕ, ◌+◌, ◌*◌, ◌/◌, ◌%◌, ◌&&◌, is_some, Bool, true, false, List, [], ◌∷◌, Option, Some}
+use Rattle.std.specs.Prelude.{ℕ, ◌+◌, ◌*◌, ◌/◌, ◌%◌, ◌&&◌, is_some, Bool, true, false, List, [], ◌∷◌, length, Option, Some}
 use Rattle.wl_mle.specs.declared.basic.Basic.{Basic}
 use Rattle.wl_mle.specs.declared.basic.Common.{Common}
 use Rattle.wl_mle.specs.declared.profile.Profile.{Profile}
 use Rattle.wl_mle.specs.declared.reconf.Reconf.{Reconf}
 use Rattle.wl_mle.specs.declared.change.LinkChange.{LinkChange}
-use Rattle.wl_mle.specs.Fields.{bit, has_bit, field}
+use Rattle.wl_elem.specs.Bits.{bit, has_bit}
+use Rattle.wl_elem.specs.Fields.{number_field}
+use Rattle.wl_mle.specs.Fields.{info}
 
 -- the slots that a control word tells of
 
@@ -71,16 +73,16 @@ change_slots control = (has_bit control 0x20, 6) ∷ (has_bit control 0x40, 2) �
 -- the fields of a value, in the order of the slots
 
 abbrev pub basic_fields : Common → List (Option (List ℕ))
-basic_fields c = Some c.mld ∷ field 1 c.link ∷ field 1 c.count ∷ field 2 c.sync ∷ field 2 c.eml ∷ field 2 c.caps ∷ field 1 c.apid ∷ field 2 c.ext ∷ []
+basic_fields c = Some c.mld ∷ number_field 1 c.link ∷ number_field 1 c.count ∷ number_field 2 c.sync ∷ number_field 2 c.eml ∷ number_field 2 c.caps ∷ number_field 1 c.apid ∷ number_field 2 c.ext ∷ []
 
 abbrev pub reconf_fields : Reconf → List (Option (List ℕ))
-reconf_fields r = r.mld ∷ field 2 r.eml ∷ field 2 r.caps ∷ field 2 r.ext ∷ []
+reconf_fields r = r.mld ∷ number_field 2 r.eml ∷ number_field 2 r.caps ∷ number_field 2 r.ext ∷ []
 
 abbrev pub profile_fields : Profile → List (Option (List ℕ))
-profile_fields p = p.mac ∷ field 2 p.beacon ∷ field 8 p.tsf ∷ field 2 p.dtim ∷ field (nstr_width p.wide) p.nstr ∷ field 1 p.count ∷ []
+profile_fields p = p.mac ∷ number_field 2 p.beacon ∷ number_field 8 p.tsf ∷ number_field 2 p.dtim ∷ number_field (nstr_width p.wide) p.nstr ∷ number_field 1 p.count ∷ []
 
 abbrev pub change_fields : LinkChange → List (Option (List ℕ))
-change_fields c = c.mac ∷ field 2 c.timer ∷ []
+change_fields c = c.mac ∷ number_field 2 c.timer ∷ []
 
 -- the control word of a value
 
@@ -105,3 +107,7 @@ basic_spare word = 8 * (word / 8 % 2) + 0x800 * (word / 0x800)
 
 abbrev pub reconf_spare : ℕ → ℕ
 reconf_spare word = 8 * (word / 8 % 2) + 0x100 * (word / 0x100)
+
+-- where a profile's body begins in the joined subelement, behind the control word and STA Info
+abbrev pub body_place : Profile → ℕ
+body_place p = 2 + length (info (profile_fields p) p.tail)

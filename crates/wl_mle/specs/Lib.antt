@@ -2,6 +2,4 @@ pub mod Fields
 pub mod Layout
 pub mod MultiLink
 pub mod Reading
-pub mod Stops
 pub mod Writing
-pub mod Fitting

@@ -5,12 +5,14 @@
 -- content.
 use Rattle.std.specs.Prelude.{◌≡◌, ◌≢◌, ℕ, suc, ◌+◌, ◌%◌, ◌<◌, ◌≤◌, ◌==◌, ◌⊎◌, ◌&&◌, nat_lt, if◌then◌else◌, is_some, Bool, true, false, List, [], ◌∷◌, ◌++◌, length, drop, slice_index, map, Option, Some, None, IfSome, Result, Ok, Err}
 use Rattle.std.specs.List.{AllByRecursion}
-use Rattle.wl_elem.specs.declared.why.Why.{Why}
 use Rattle.wl_elem.specs.declared.why.Why.TheVariants.{ControlShort, CommonShort, CommonLong, ReservedLink, InfoShort, InfoLong}
 use Rattle.wl_elem.specs.declared.fault.Refusal.{Refusal}
 use Rattle.wl_elem.specs.declared.kind.ListKind.TheVariants.{Subelements}
 use Rattle.wl_elem.specs.declared.item.Item.{Item}
-use Rattle.wl_elem.specs.Answers.{refusal_at}
+use Rattle.wl_elem.specs.Answers.{refusal_at, in_sub}
+use Rattle.wl_elem.specs.Bits.{has_bit}
+use Rattle.wl_elem.specs.Element.{body_limit}
+use Rattle.wl_elem.specs.Fields.{Fits}
 use Rattle.wl_elem.specs.Octets.{octets_of}
 use Rattle.wl_elem.specs.Row.{IsCutOff}
 use Rattle.wl_elem.specs.Items.{Items}
@@ -24,12 +26,8 @@ use Rattle.wl_mle.specs.declared.reconf.ReconfSub.TheVariants as reconfs
 use Rattle.wl_mle.specs.declared.change.LinkChange.{LinkChange}
 use Rattle.wl_mle.specs.declared.multi_link.MultiLink.{MultiLink}
 use Rattle.wl_mle.specs.declared.multi_link.MultiLink.TheVariants as elements
-use Rattle.wl_mle.specs.Fields.{has_bit, Fits, known, info_text, need, info_fault, behind_info, word_of}
+use Rattle.wl_mle.specs.Fields.{IsShort, info_text, need, info_fault, at_info, behind_info, word_of}
 use Rattle.wl_mle.specs.Layout.{basic_slots, reconf_slots, profile_slots, change_slots, nstr_width, basic_fields, reconf_fields, profile_fields, change_fields, basic_control, reconf_control, profile_control, change_control, basic_spare, reconf_spare}
-
--- an Info field is no longer than its length octet can say
-abbrev pub IsShort : List (Option (List ℕ)) → List ℕ → Type 0
-IsShort fields tail = length (known fields) + length tail < 255
 
 abbrev pub IsAddress : List ℕ → Type 0
 IsAddress octets = length octets ≡ 6
@@ -153,35 +151,26 @@ pub record MlOf (value : MultiLink) (body : List ℕ) : Type 0 where
 
 -- some body, no longer than an element's may be, is this value's
 abbrev pub IsWritable : MultiLink → Type 0
-IsWritable value = (body : List ℕ) × (length body ≤ 16777216) × MlOf value body
+IsWritable value = (body : List ℕ) × (length body ≤ body_limit) × MlOf value body
 
 -- ---- refusals
 
--- the first test that a subelement's octets fail, where it is a profile with these slots, and its
--- place in them
-abbrev pub link_fault : ℕ → Option (ℕ × Why) → Option (ℕ × Why)
-link_fault control other = if control % 16 == 15 then Some (0, ReservedLink) else other
+-- the first test that a subelement's octets fail, where it is a profile with these slots
+abbrev pub link_fault : ℕ → Option Refusal → Option Refusal
+link_fault control other = if control % 16 == 15 then Some (refusal_at 0 ReservedLink) else other
 
-abbrev pub fault_behind : Option Why → Option (ℕ × Why)
-fault_behind (Some why) = Some (2, why)
-fault_behind None = None
+abbrev pub word_fault : (ℕ → List (Bool × ℕ)) → ℕ → List ℕ → Option Refusal
+word_fault slots control rest = link_fault control (at_info (info_fault InfoShort InfoLong (need (slots control)) rest) None)
 
-abbrev pub word_fault : (ℕ → List (Bool × ℕ)) → ℕ → List ℕ → Option (ℕ × Why)
-word_fault slots control rest = link_fault control (fault_behind (info_fault InfoShort InfoLong (need (slots control)) rest))
+abbrev pub profile_fault : (ℕ → List (Bool × ℕ)) → List ℕ → Option Refusal
+profile_fault slots octets = if nat_lt (length octets) 3 then Some (refusal_at 0 InfoShort) else word_fault slots (word_of octets) (drop 2 octets)
 
-abbrev pub profile_fault : (ℕ → List (Bool × ℕ)) → List ℕ → Option (ℕ × Why)
-profile_fault slots octets = if nat_lt (length octets) 3 then Some (0, InfoShort) else word_fault slots (word_of octets) (drop 2 octets)
-
-abbrev pub sub_fault : (ℕ → List (Bool × ℕ)) → Item → Option (ℕ × Why)
+abbrev pub sub_fault : (ℕ → List (Bool × ℕ)) → Item → Option Refusal
 sub_fault slots s = if s.id == 0 then profile_fault slots s.octets else None
 
--- the refusal at this place of that subelement
-abbrev pub sub_refusal : ℕ → ℕ → Why → Refusal
-sub_refusal sub place why = record { element = None; sub = Some sub; inner = None; place = place; why = why }
-
 -- the first profile that fails a test, counted from `sub`
-abbrev pub first_refused : ℕ → Option (ℕ × Why) → Option Refusal → Option Refusal
-first_refused sub (Some fault) others = Some (sub_refusal sub fault.0 fault.1)
+abbrev pub first_refused : ℕ → Option Refusal → Option Refusal → Option Refusal
+first_refused sub (Some refusal) others = Some (in_sub sub refusal)
 first_refused sub None others = others
 
 abbrev pub subs_refusal : (ℕ → List (Bool × ℕ)) → ℕ → List Item → Option Refusal
@@ -191,18 +180,14 @@ subs_refusal slots sub (s ∷ list) = first_refused sub (sub_fault slots s) (sub
 -- the first test before the subelements that fails, behind the control word: Common Info, and of
 -- Basic the link ID of Link ID Info
 
-abbrev pub at_common : Option Why → Option Refusal → Option Refusal
-at_common (Some why) other = Some (refusal_at 2 why)
-at_common None other = other
-
 abbrev pub own_link_fault : Bool → ℕ → Option Refusal
 own_link_fault there link = if there && (link % 16 == 15) then Some (refusal_at 9 ReservedLink) else None
 
 abbrev pub basic_fault : ℕ → List ℕ → Option Refusal
-basic_fault control rest = at_common (info_fault CommonShort CommonLong (need (basic_slots control)) rest) (own_link_fault (has_bit control 0x10) (slice_index rest 7))
+basic_fault control rest = at_info (info_fault CommonShort CommonLong (need (basic_slots control)) rest) (own_link_fault (has_bit control 0x10) (slice_index rest 7))
 
 abbrev pub reconf_fault : ℕ → List ℕ → Option Refusal
-reconf_fault control rest = at_common (info_fault CommonShort CommonLong (need (reconf_slots control)) rest) None
+reconf_fault control rest = at_info (info_fault CommonShort CommonLong (need (reconf_slots control)) rest) None
 
 -- Behind Common Info the list of subelements is refused, at a piece or, where it is sound, at its
 -- first profile that fails a test.

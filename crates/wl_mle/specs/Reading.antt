@@ -1,11 +1,14 @@
 -- For private contracts alone: what is read at each field, for the contracts of the readers.
-use Rattle.std.specs.Prelude.{◌≡◌, ℕ, zero, suc, ◌-◌, ◌/◌, ◌%◌, ◌==◌, ◌⊎◌, nat_lt, if◌then◌else◌, Bool, true, false, List, [], ◌∷◌, length, take, drop, map, Option, Some, None, Result, Ok, Err}
+use Rattle.std.specs.Prelude.{◌≡◌, ℕ, zero, suc, ◌/◌, ◌%◌, ◌==◌, ◌⊎◌, nat_lt, if◌then◌else◌, Bool, true, false, List, [], ◌∷◌, length, drop, map, Option, Some, None, Result, Ok, Err}
 use Rattle.wl_elem.specs.declared.why.Why.TheVariants.{ControlShort}
 use Rattle.wl_elem.specs.declared.fault.Refusal.{Refusal}
+use Rattle.wl_elem.specs.declared.fault.Fault.{Fault}
+use Rattle.wl_elem.specs.declared.fault.Fault.TheVariants.{Refused, Memory}
 use Rattle.wl_elem.specs.declared.kind.ListKind.TheVariants.{Subelements}
 use Rattle.wl_elem.specs.declared.item.Item.{Item}
 use Rattle.wl_elem.specs.Answers.{refusal_at}
-use Rattle.wl_elem.specs.Octets.{number}
+use Rattle.wl_elem.specs.Bits.{has_bit}
+use Rattle.wl_elem.specs.Fields.{octets_in, field_at, after_field, number_in}
 use Rattle.wl_elem.specs.Items.{Items}
 use Rattle.wl_mle.specs.declared.basic.Basic.{Basic}
 use Rattle.wl_mle.specs.declared.basic.Common.{Common}
@@ -18,20 +21,11 @@ use Rattle.wl_mle.specs.declared.reconf.ReconfSub.TheVariants as reconfs
 use Rattle.wl_mle.specs.declared.change.LinkChange.{LinkChange}
 use Rattle.wl_mle.specs.declared.multi_link.MultiLink.{MultiLink}
 use Rattle.wl_mle.specs.declared.multi_link.MultiLink.TheVariants as elements
-use Rattle.wl_mle.specs.Fields.{has_bit, octets_in, behind_info, word_of}
+use Rattle.wl_mle.specs.Fields.{area_of, behind_info, word_of}
 use Rattle.wl_mle.specs.Layout.{basic_slots, reconf_slots, profile_slots, change_slots, basic_spare, reconf_spare}
 use Rattle.wl_mle.specs.MultiLink.{subs_refusal, basic_fault, reconf_fault, CutRefused}
 
 -- ---- fields
-
--- a field where it is there, and what follows it
-abbrev pub field_at : Bool → ℕ → List ℕ → Option (List ℕ)
-field_at true width octets = Some (take width octets)
-field_at false width octets = None
-
-abbrev pub after_field : Bool → ℕ → List ℕ → List ℕ
-after_field true width octets = drop width octets
-after_field false width octets = octets
 
 -- the fields of some slots, and what follows them
 abbrev pub fields_at : List (Bool × ℕ) → List ℕ → List (Option (List ℕ))
@@ -41,15 +35,6 @@ fields_at (slot ∷ slots) octets = field_at slot.0 slot.1 octets ∷ fields_at 
 abbrev pub after_fields : List (Bool × ℕ) → List ℕ → List ℕ
 after_fields [] octets = octets
 after_fields (slot ∷ slots) octets = after_fields slots (after_field slot.0 slot.1 octets)
-
--- the octets of an Info field behind its length
-abbrev pub area_of : List ℕ → List ℕ
-area_of [] = []
-area_of (len ∷ rest) = take (len - 1) rest
-
-abbrev pub number_in : Option (List ℕ) → Option ℕ
-number_in None = None
-number_in (Some octets) = Some (number octets)
 
 -- the field at an index
 abbrev pub nth : ℕ → List (Option (List ℕ)) → Option (List ℕ)
@@ -123,11 +108,23 @@ common_at control rest = common_of (fields_at (basic_slots control) (area_of res
 abbrev pub reconf_at : ℕ → List ℕ → List ReconfSub → Reconf
 reconf_at control rest subs = reconf_of control (fields_at (reconf_slots control) (area_of rest)) (after_fields (reconf_slots control) (area_of rest)) subs
 
+-- the profile behind a control word, of these slots and made so
+abbrev pub made_behind : {V : Type 0} → (ℕ → List (Bool × ℕ)) → (ℕ → List (Option (List ℕ)) → List ℕ → List ℕ → V) → ℕ → List ℕ → V
+made_behind slots made control rest = made control (fields_at (slots control) (area_of rest)) (after_fields (slots control) (area_of rest)) (behind_info rest)
+
 abbrev pub profile_behind : ℕ → List ℕ → Profile
-profile_behind control rest = profile_of control (fields_at (profile_slots control) (area_of rest)) (after_fields (profile_slots control) (area_of rest)) (behind_info rest)
+profile_behind control rest = made_behind profile_slots profile_of control rest
 
 abbrev pub change_behind : ℕ → List ℕ → LinkChange
-change_behind control rest = change_of control (fields_at (change_slots control) (area_of rest)) (after_fields (change_slots control) (area_of rest)) (behind_info rest)
+change_behind control rest = made_behind change_slots change_of control rest
+
+-- ---- answers
+
+-- the answer where this is refused, or else has this value
+abbrev pub Reads : {V : Type 0} → Option Refusal → V → Result V Fault → Type 0
+Reads found value (Ok v) = (found ≡ None) × (v ≡ value)
+Reads found value (Err (Refused refusal)) = found ≡ Some refusal
+Reads found value (Err Memory) = Unit {0}
 
 -- ---- subelements
 

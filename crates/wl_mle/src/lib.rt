@@ -5,13 +5,12 @@ mod basic;
 mod change;
 mod decode;
 mod encode;
-mod fields;
-mod fitting;
+mod info;
 mod laws;
 mod multi_link;
 mod profile;
 mod reconf;
-mod stop;
+mod subs;
 
 pub use basic::{Basic, BasicSub, BasicSubs, Common};
 pub use change::LinkChange;

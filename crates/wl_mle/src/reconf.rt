@@ -1,11 +1,16 @@
 //! Reconfiguration Multi-Link elements.
 
-ghost use Rattle.std.specs.Prelude.{◌≡◌, ◌==◌, ◌<◌, ◌^◌, ◌++◌, ◌∷◌, [], length, OnOk, OnErr, slice_get, option_copied};
+ghost use Rattle.std.specs.Prelude.{◌≡◌, ◌↔◌, IsTrue};
+ghost use Rattle.wl_mle.specs.Layout.{reconf_spare};
 
 use crate::change::LinkChange;
+use crate::info::{Info, head_len, is_short};
+use crate::subs::{Subelement, is_other_id, put_profile, read_profile, room_behind, subs_fit};
 use std::alloc::Global;
-use std::marker::Model;
-use wl_elem::{Bytes, MacAddr, Memory};
+use wl_elem::{
+    Bytes, Fault, Item, List, ListKind, MacAddr, Memory, has_bit, mac_len, put_item, put_mac,
+    put_u16, u16_len, width_if,
+};
 
 /// A Reconfiguration Multi-Link element (IEEE Std 802.11be, 9.4.2.312.4).
 #[derive(Debug, Drop)]
@@ -36,79 +41,117 @@ pub enum ReconfSub {
 }
 
 /// A list of subelements of a Reconfiguration Multi-Link element, in order.
-#[derive(Debug, Drop)]
-pub struct ReconfSubs {
-    list: Vec<ReconfSub>,
-}
+pub type ReconfSubs = List<ReconfSub>;
 
-impl Model for ReconfSubs {
-    ghost use Rattle.std.specs.Prelude.{List};
-    ghost use Rattle.wl_mle.specs.declared.reconf.ReconfSub.{ReconfSub};
+impl Reconf {
+    ghost use Rattle.wl_mle.specs.MultiLink.{IsReconf};
 
-    ghost Value = { List ReconfSub };
-
-    ghost view = { λ s. s.list.items };
-}
-
-impl ReconfSubs {
-    /// No subelements. It takes no memory.
-    pub fn new(alloc: Global) -> ReconfSubs
-        ensures { result ≡ [] }
+    /// Whether the value has octets.
+    pub(crate) fn fits(&self) -> bool
+        ensures { IsTrue result ↔ IsReconf self.now }
     {
-        ReconfSubs {
-            list: Vec::new(alloc),
+        is_short(self) && reconf_spare(self.spare) == self.spare && subs_fit(self.subs.as_slice())
+    }
+}
+
+impl Info for Reconf {
+    ghost use Rattle.wl_mle.specs.Layout.{reconf_slots, reconf_control, reconf_fields};
+    ghost use Rattle.wl_mle.specs.MultiLink.{IsReconf};
+    ghost use Rattle.wl_mle.specs.Writing.{ReconfTyped};
+
+    ghost slots = { reconf_slots };
+
+    ghost word = { reconf_control };
+
+    ghost fields = { reconf_fields };
+
+    ghost tail = { λ r. r.tail };
+
+    ghost IsInfo = { IsReconf };
+
+    ghost IsTyped = { ReconfTyped };
+
+    fn need(control: u16) -> usize {
+        width_if(has_bit(control, 0x10), 6)
+            + width_if(has_bit(control, 0x20), 2)
+            + width_if(has_bit(control, 0x40), 2)
+            + width_if(has_bit(control, 0x80), 2)
+    }
+
+    fn known_len(&self) -> usize {
+        mac_len(self.mld) + u16_len(self.eml) + u16_len(self.caps) + u16_len(self.ext)
+    }
+
+    fn control(&self) -> u16 {
+        2 + self.spare
+            + 0x10 * u16::from(self.mld.is_some())
+            + 0x20 * u16::from(self.eml.is_some())
+            + 0x40 * u16::from(self.caps.is_some())
+            + 0x80 * u16::from(self.ext.is_some())
+    }
+
+    fn put_known(&self, out: &mut Bytes) -> Result<(), Memory> {
+        put_mac(out, self.mld)?;
+        put_u16(out, self.eml)?;
+        put_u16(out, self.caps)?;
+        put_u16(out, self.ext)
+    }
+
+    fn tail(&self) -> &[u8] {
+        self.tail.as_slice()
+    }
+}
+
+impl Subelement for ReconfSub {
+    ghost use Rattle.wl_mle.specs.Layout.{change_slots};
+    ghost use Rattle.wl_mle.specs.MultiLink.{reconf_sub, IsReconfSub};
+    ghost use Rattle.wl_mle.specs.Reading.{reconf_sub_at};
+
+    ghost slots = { change_slots };
+
+    ghost item = { reconf_sub };
+
+    ghost at = { reconf_sub_at };
+
+    ghost IsSub = { IsReconfSub };
+
+    fn read(alloc: Global, s: &Item) -> Result<ReconfSub, Fault> {
+        if s.id == 0 {
+            let change = read_profile(alloc, s.octets.as_slice())?;
+            return Ok(ReconfSub::Change(change));
+        }
+        let body = Bytes::from_slice(alloc, s.octets.as_slice())?;
+        Ok(ReconfSub::Other { id: s.id, body })
+    }
+
+    fn fits(&self) -> bool {
+        match self {
+            ReconfSub::Change(c) => c.fits(),
+            ReconfSub::Other { id, body: _ } => is_other_id(*id),
         }
     }
 
-    /// These subelements. It takes no memory.
-    pub fn from_vec(list: Vec<ReconfSub>) -> ReconfSubs
-        ensures { result ≡ list.items }
-    {
-        ReconfSubs { list }
+    #[tactic(auto, using(crate::proofs::Lengths::change_length))]
+    fn room_behind(&self, room: usize) -> Option<usize> {
+        match self {
+            ReconfSub::Change(c) => room_behind(head_len(c), c.body.as_slice().len(), room),
+            ReconfSub::Other { id: _, body } => room_behind(0, body.as_slice().len(), room),
+        }
     }
 
-    /// The same subelements as a `Vec`. It takes no memory.
-    pub fn into_vec(self) -> Vec<ReconfSub>
-        ensures { result.items ≡ self }
-    {
-        self.list
+    fn put(&self, alloc: Global, out: &mut Bytes) -> Result<(), Memory> {
+        match self {
+            ReconfSub::Change(c) => put_profile(alloc, out, c, &c.body),
+            ReconfSub::Other { id, body } => {
+                put_item(out, ListKind::Subelements, *id, body.as_slice())
+            }
+        }
     }
+}
 
-    /// Adds a subelement at the end. After `Memory` the list is as it was.
-    pub fn push(&mut self, sub: ReconfSub) -> Result<(), Memory>
-        ensures ok { OnOk result (self.new ≡ self.old ++ sub ∷ []) }
-        ensures err { OnErr result (self.new ≡ self.old) }
-    {
-        self.list.push(sub)?;
-        Ok(())
-    }
-
-    /// How many subelements there are.
-    pub fn len(&self) -> u32
-        requires { length self.now < 2 ^ 32 }
-        ensures { result ≡ length self.now }
-    {
-        self.list.len() as u32
-    }
-
-    /// Whether there are none.
-    pub fn is_empty(&self) -> bool
-        ensures { result ≡ (length self.now == 0) }
-    {
-        self.list.is_empty()
-    }
-
-    /// The subelement at an index. None exactly from the length up.
-    pub fn get(&self, i: u32) -> Option<&ReconfSub>
-        ensures { option_copied result ≡ slice_get self.now i }
-    {
-        self.list.get(i as usize)
-    }
-
-    /// The subelements as a slice.
-    pub fn as_slice(&self) -> &[ReconfSub]
-        ensures { result.now ≡ self.now }
-    {
-        self.list.as_slice()
-    }
+/// The bits 0xff08 of a control word.
+pub fn reconf_spare(control: u16) -> u16
+    ensures { result ≡ reconf_spare control }
+{
+    8 * (control / 8 % 2) + 0x100 * (control / 0x100)
 }

@@ -24,16 +24,14 @@ use Rattle.wl_history.specs.declared.script.Plain.TheVariants.{Do, Send}
 use Rattle.wl_history.specs.declared.script.Item.{Item}
 use Rattle.wl_history.specs.declared.script.Item.TheVariants.{Once}
 use Rattle.wl_scene.specs.Members.{has_only, has_number, has_text, whole_of, below, text_at, hex_at}
+use Rattle.wl_elem.specs.Element.{msdu_limit}
 
 -- the lane of TID 0
 abbrev pub lane_0 : Lane
 lane_0 = Tid 0
 
-abbrev pub body_limit : ℕ
-body_limit = 2304
-
 abbrev pub sized : List ℕ → Option (List ℕ)
-sized body = if nat_le 1 (length body) && nat_le (length body) body_limit then Some body else None
+sized body = if nat_le 1 (length body) && nat_le (length body) msdu_limit then Some body else None
 
 -- an MSDU
 abbrev pub body_at : Data → Option (List ℕ)

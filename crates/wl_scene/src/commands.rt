@@ -14,7 +14,7 @@ use crate::member::{has_number, has_only, has_text, text};
 use hex::FromHexError;
 use serde_json::Value;
 use std::alloc::Global;
-use wl_elem::{Bytes, EndId, Lane, LinkId, Tid};
+use wl_elem::{Bytes, EndId, Lane, LinkId, MSDU_LIMIT, Tid};
 use wl_history::{Command, Item, Plain, Script};
 
 /// TID 0.
@@ -43,7 +43,7 @@ fn body_of(alloc: Global, digits: &str) -> Result<Bytes, Stop>
         Err(FromHexError::OutOfMemory) => return Err(Stop::NoMemory),
         Err(_) => return Err(Stop::Wrong),
     };
-    if octets.is_empty() || octets.len() > 2304 {
+    if octets.is_empty() || octets.len() > MSDU_LIMIT {
         return Err(Stop::Wrong);
     }
     Ok(Bytes::from_vec(octets))

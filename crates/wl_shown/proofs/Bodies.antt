@@ -12,7 +12,7 @@ use Rattle.wl_assoc.specs.declared.links.LinkAsk.{LinkAsk}
 use Rattle.wl_assoc.specs.declared.links.LinkState.{LinkState}
 use Rattle.wl_assoc.specs.Association.{ReadsAsk, ReadsReply}
 use Rattle.wl_assoc.specs.Profiles.{AsksAs, StatesAs}
-use Rattle.wl_shown.specs.declared.item.Decoded.TheVariants as which
+use Rattle.wl_shown.specs.declared.item.ShownElements.TheVariants as which
 use Rattle.wl_shown.specs.ActionText.{action_text, decoded_in}
 use Rattle.wl_shown.specs.AssocText.{ask_text, asks_text, reply_text, states_text}
 use Rattle.wl_shown.specs.Shown.{Answer, ItemsAs, ActionAs, AskAs, ReplyAs, AddsText, IsFaultOf}

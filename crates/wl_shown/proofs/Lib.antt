@@ -3,7 +3,7 @@ pub mod Mappings
 pub mod Items
 pub mod Texts
 pub mod Once
+pub mod Total
 pub mod Values
-pub mod Judging
-pub mod Identities
+pub mod VerdictTexts
 pub mod Bodies

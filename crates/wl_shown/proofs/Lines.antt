@@ -1,5 +1,5 @@
 -- Lines and hex lines.
-use Rattle.std.proofs.Common.{◌≡◌, ℕ, ◌+◌, ◌*◌, ◌/◌, ◌%◌, ◌<◌, Bool, true, false, cond, eq-eqb, List, [], ◌∷◌, ◌++◌, length, map, Option, None, Some, Result, Ok, Err, refl, sym, ap, subst, ◌∙◌, arith, inl, inr}
+use Rattle.std.proofs.Common.{◌≡◌, ℕ, ◌+◌, ◌*◌, ◌/◌, ◌%◌, ◌<◌, Bool, true, false, cond, eq-eqb, List, [], ◌∷◌, ◌++◌, length, map, Option, None, Some, Result, Ok, Err, refl, sym, ap, subst, ◌∙◌, arith, inl, inr, bytes_eq}
 use Rattle.std.specs.Prelude.{◌==◌, ◌⊎◌, MatchResult}
 use Rattle.std.specs.List.{slice_split, onto_first, AllByRecursion, position_from, position}
 use Rattle.std.specs.Str.Lines.{strip_carriage_return}
@@ -8,6 +8,7 @@ use Rattle.std.proofs.lemmas.Bool.Decides.{eqb_tells}
 use Rattle.std.proofs.lemmas.List.Elements.{All-from_recursion, recursion_from_All}
 use Rattle.std.proofs.lemmas.List.Splits.{slice_split_at, slice_split_none}
 use Rattle.std.proofs.lemmas.Iterator.Adapters.{position_from-zero}
+use Rattle.std.proofs.lemmas.Slice.Eq.{bytes_eq-Decides}
 use Rattle.hex.specs.Hex.{decode_of, decode_sized, is_hex_digit}
 use Rattle.hex.specs.declared.error.FromHexError.{FromHexError}
 use Rattle.hex.proofs.HexLemmas.{decode_of-ok, decode_of-odd, decode_sized-odd, decode_sized-twice}
@@ -226,3 +227,33 @@ pub one_hex_line : (line : List ℕ) (kind other : Kind) (octets more : List ℕ
 one_hex_line line kind other octets more (digits, is_line, decoded) reading =
     let only = bare_or_worded line kind octets digits is_line decoded other more reading in
     (sym only.0, ok_same octets more (sym decoded ∙ only.1))
+
+-- ---- each line is read
+
+-- the line is a hex line, or none
+abbrev pub IsRead : List ℕ → Type 0
+IsRead line = ((kind : Kind) × (octets : List ℕ) × IsHexLine line kind octets) ⊎ IsNoHexLine line
+
+by_digits : (line : List ℕ) (kind : Kind) (digits : List ℕ) (r : Result (List ℕ) FromHexError) → decode_of digits ≡ r → IsKindLine line kind digits → IsOnlyReading line kind digits → IsRead line
+by_digits line kind digits (Ok octets) decoded is only = inl (kind, octets, (digits, is, decoded))
+by_digits line kind digits (Err e) failed is only = inr (not_hex line digits kind e only failed)
+
+-- a word of a kind has the length of that kind's word
+by_word : (line word digits : List ℕ) (kind : Kind) (same : Bool) → bytes_eq word (kind_word kind) ≡ same → kind ≡ kind_of_length (length word) → IsSplitAt 32 line word digits → IsRead line
+by_word line word digits kind true same is split =
+    let worded = (bytes_eq-Decides word (kind_word kind)).0 same in
+    by_digits line kind digits (decode_of digits) refl (inr (split.0 ∙ ap (λ (x : List ℕ). x ++ 32 ∷ digits) worded)) (only_by_word line word digits kind split worded)
+by_word line word digits kind false other is split =
+    let unknown : (k : Kind) → word ≡ kind_word k → ⊥ = λ k worded.
+    let as_long : kind ≡ k = is ∙ ap (λ (x : List ℕ). kind_of_length (length x)) worded ∙ length_tells k in
+    absurd (cc (other, (bytes_eq-Decides word (kind_word kind)).1 (worded ∙ ap kind_word (sym as_long)))) in
+    inr (none_by_word line word digits split unknown)
+
+by_place : (line : List ℕ) (r : Option ℕ) → IsPlaceFrom 32 line 0 r → IsRead line
+by_place line None lacks = by_digits line Elements line (decode_of line) refl (inl (refl, refl)) (only_bare line lacks)
+by_place line (Some place) (k, counted, is) =
+    let kind = kind_of_length (length is.front) in
+    by_word line is.front is.back kind (bytes_eq is.front (kind_word kind)) refl refl is.split
+
+pub is_read : (line : List ℕ) → IsRead line
+is_read line = by_place line (position_from (λ x. x == 32) 0 line) (place_from 32 line 0)

@@ -1,13 +1,13 @@
 -- One text is shown for an input, or it has one first bad line, and not both.
-use Rattle.std.proofs.Common.{◌≡◌, ℕ, suc, Bool, true, false, length, List, [], ◌∷◌, ◌++◌, Option, Result, Ok, Err, sym, ap, subst, ◌∙◌, inl, inr}
+use Rattle.std.proofs.Common.{◌≡◌, ℕ, suc, Bool, length, List, [], ◌∷◌, ◌++◌, Option, Some, None, Result, Ok, Err, sym, ap, subst, ◌∙◌, inl, inr}
 use Rattle.std.specs.Prelude.{◌⊎◌, codes}
 use Rattle.wl_elem.specs.declared.fault.Refusal.{Refusal}
+use Rattle.wl_elem.specs.declared.known.Known.{Known}
+use Rattle.wl_elem.specs.Answers.{in_element}
+use Rattle.wl_action.specs.declared.known.KnownValue.{KnownValue}
+use Rattle.wl_action.specs.Known as knowns
 use Rattle.wl_elem.specs.Element.{ElementValue}
 use Rattle.wl_elem.specs.ElementList.{ReadAs}
-use Rattle.wl_ttlm.specs.declared.ttlm.Ttlm.{Ttlm}
-use Rattle.wl_ttlm.specs.Ttlm as ttlm
-use Rattle.wl_mle.specs.declared.multi_link.MultiLink.{MultiLink}
-use Rattle.wl_mle.specs.MultiLink as ml
 use Rattle.wl_action.specs.declared.action.Action.{Action}
 use Rattle.wl_action.specs.Action as actions
 use Rattle.wl_action.specs.Action.{elements_of}
@@ -21,14 +21,12 @@ use Rattle.wl_shown.specs.ActionText.{action_text, decoded_in}
 use Rattle.wl_shown.specs.AssocText.{ask_text, asks_text, reply_text, states_text}
 use Rattle.wl_frame.specs.Frame.{FrameValue}
 use Rattle.wl_frame.specs.Refusals as frames
-use Rattle.wl_shown.specs.declared.item.Decoded.{Decoded}
-use Rattle.wl_shown.specs.declared.item.Decoded.TheVariants.{All, Basic}
+use Rattle.wl_shown.specs.declared.item.ShownElements.{ShownElements}
+use Rattle.wl_shown.specs.declared.item.ShownElements.TheVariants.{All, Basic}
 use Rattle.wl_shown.specs.declared.line.Kind.{Kind}
 use Rattle.wl_shown.specs.declared.line.Kind.TheVariants as kinds
-use Rattle.wl_shown.specs.TtlmText.{ttlm_text}
-use Rattle.wl_shown.specs.MlText.{ml_text}
 use Rattle.wl_shown.specs.FrameText.{frame_text}
-use Rattle.wl_shown.specs.Shown.{Answer, MappingAs, MultiLinkAs, is_shown_mapping, is_shown_multi_link, ItemBy, ItemAs, ItemsAs, ListAs, FrameAs, ActionAs, between, AnswerAs, Shown, behind, at_element, answer_text}
+use Rattle.wl_shown.specs.Shown.{Answer, known_text, KnownAs, shown_as, ItemBy, ItemAs, ItemsAs, ListAs, FrameAs, ActionAs, between, AnswerAs, Shown, behind, answer_text}
 use Rattle.wl_shown.specs.Decoded.{ShownFor, ShownLines, IsFirstBad}
 use Rattle.wl_shown.specs.Checked.{is_accepted, verdict_text, VerdictFor, first_refused, VerdictLines}
 use Rattle.wl_shown.proofs.Lines.{one_hex_line}
@@ -37,11 +35,9 @@ use Rattle.wl_shown.proofs.Lines.{one_hex_line}
 abbrev pub ListsReadOnce : Type 0
 ListsReadOnce = (octets : List ℕ) (a b : Result (List ElementValue) Refusal) → ReadAs octets a → ReadAs octets b → a ≡ b
 
-abbrev pub MappingsReadOnce : Type 0
-MappingsReadOnce = (body : List ℕ) (a b : Result Ttlm Refusal) → ttlm.ReadAs body a → ttlm.ReadAs body b → a ≡ b
-
-abbrev pub MultiLinksReadOnce : Type 0
-MultiLinksReadOnce = (body : List ℕ) (a b : Result MultiLink Refusal) → ml.ReadAs body a → ml.ReadAs body b → a ≡ b
+-- bodies of the elements that are decoded are read in one way
+abbrev pub ItemsReadOnce : Type 0
+ItemsReadOnce = (known : Known) (body : List ℕ) (a b : Result KnownValue Refusal) → knowns.ReadAs known body a → knowns.ReadAs known body b → a ≡ b
 
 abbrev text_of : List ℕ → Answer
 text_of text = Ok text
@@ -49,45 +45,25 @@ text_of text = Ok text
 abbrev refused : Refusal → Answer
 refused refusal = Err refusal
 
-abbrev value : Ttlm → Result Ttlm Refusal
-value t = Ok t
+abbrev value : KnownValue → Result KnownValue Refusal
+value v = Ok v
 
-abbrev no_value : Refusal → Result Ttlm Refusal
+abbrev no_value : Refusal → Result KnownValue Refusal
 no_value refusal = Err refusal
 
-same_value : (t u : Ttlm) → value t ≡ value u → t ≡ u
-same_value t u e = cc
+same_value : (v w : KnownValue) → value v ≡ value w → v ≡ w
+same_value v w e = cc
 
 same_refusal : (a b : Refusal) → no_value a ≡ no_value b → a ≡ b
 same_refusal a b e = cc
 
-one_mapping : MappingsReadOnce → (body : List ℕ) (a b : Answer) → MappingAs body a → MappingAs body b → a ≡ b
-one_mapping once body (Ok a) (Ok b) (t, p, e) (u, q, f) =
-    let same : t ≡ u = same_value t u (once body (value t) (value u) p q) in
-    ap text_of (e ∙ ap ttlm_text same ∙ sym f)
-one_mapping once body (Ok a) (Err b) (t, p, e) q = absurd (cc (once body (value t) (no_value b) p q))
-one_mapping once body (Err a) (Ok b) p (u, q, f) = absurd (cc (once body (no_value a) (value u) p q))
-one_mapping once body (Err a) (Err b) p q = ap refused (same_refusal a b (once body (no_value a) (no_value b) p q))
-
-abbrev ml_value : MultiLink → Result MultiLink Refusal
-ml_value v = Ok v
-
-abbrev no_ml : Refusal → Result MultiLink Refusal
-no_ml refusal = Err refusal
-
-same_ml : (v w : MultiLink) → ml_value v ≡ ml_value w → v ≡ w
-same_ml v w e = cc
-
-same_no_ml : (a b : Refusal) → no_ml a ≡ no_ml b → a ≡ b
-same_no_ml a b e = cc
-
-one_multi_link : MultiLinksReadOnce → (body : List ℕ) (a b : Answer) → MultiLinkAs body a → MultiLinkAs body b → a ≡ b
-one_multi_link once body (Ok a) (Ok b) (v, p, e) (w, q, f) =
-    let same : v ≡ w = same_ml v w (once body (ml_value v) (ml_value w) p q) in
-    ap text_of (e ∙ ap ml_text same ∙ sym f)
-one_multi_link once body (Ok a) (Err b) (v, p, e) q = absurd (cc (once body (ml_value v) (no_ml b) p q))
-one_multi_link once body (Err a) (Ok b) p (w, q, f) = absurd (cc (once body (no_ml a) (ml_value w) p q))
-one_multi_link once body (Err a) (Err b) p q = ap refused (same_no_ml a b (once body (no_ml a) (no_ml b) p q))
+one_known : ItemsReadOnce → (known : Known) (body : List ℕ) (a b : Answer) → KnownAs known body a → KnownAs known body b → a ≡ b
+one_known once known body (Ok a) (Ok b) (v, p, e) (w, q, f) =
+    let same : v ≡ w = same_value v w (once known body (value v) (value w) p q) in
+    ap text_of (e ∙ ap known_text same ∙ sym f)
+one_known once known body (Ok a) (Err b) (v, p, e) q = absurd (cc (once known body (value v) (no_value b) p q))
+one_known once known body (Err a) (Ok b) p (w, q, f) = absurd (cc (once known body (no_value a) (value w) p q))
+one_known once known body (Err a) (Err b) p q = ap refused (same_refusal a b (once known body (no_value a) (no_value b) p q))
 
 abbrev pub FramesReadOnce : Type 0
 FramesReadOnce = (octets : List ℕ) (a b : Result FrameValue Refusal) → frames.ReadAs octets a → frames.ReadAs octets b → a ≡ b
@@ -112,18 +88,12 @@ one_frame once octets (Ok a) (Err b) (f, p, e) q = absurd (cc (once octets (fram
 one_frame once octets (Err a) (Ok b) p (g, q, h) = absurd (cc (once octets (no_frame a) (frame_value_of g) p q))
 one_frame once octets (Err a) (Err b) p q = ap refused (same_no_frame a b (once octets (no_frame a) (no_frame b) p q))
 
--- the values that elements are decoded to are each read once
-pub record ItemsReadOnce : Type 0 where
-  pub mapping : MappingsReadOnce
-  pub multi_link : MultiLinksReadOnce
+one_item_by : ItemsReadOnce → (found : Option Known) (e : ElementValue) (a b : Answer) → ItemBy found e a → ItemBy found e b → a ≡ b
+one_item_by once (Some known) e a b p q = one_known once known e.body a b p q
+one_item_by once None e a b p q = p ∙ sym q
 
-one_item_by : ItemsReadOnce → (mapping multi_link : Bool) (e : ElementValue) (a b : Answer) → ItemBy mapping multi_link e a → ItemBy mapping multi_link e b → a ≡ b
-one_item_by once true multi_link e a b p q = one_mapping once.mapping e.body a b p q
-one_item_by once false true e a b p q = one_multi_link once.multi_link e.body a b p q
-one_item_by once false false e a b p q = p ∙ sym q
-
-one_item : ItemsReadOnce → (decoded : Decoded) (e : ElementValue) (a b : Answer) → ItemAs decoded e a → ItemAs decoded e b → a ≡ b
-one_item once decoded e a b p q = one_item_by once (is_shown_mapping decoded e) (is_shown_multi_link decoded e) e a b p q
+one_item : ItemsReadOnce → (decoded : ShownElements) (e : ElementValue) (a b : Answer) → ItemAs decoded e a → ItemAs decoded e b → a ≡ b
+one_item once decoded e a b p q = one_item_by once (shown_as decoded e) e a b p q
 
 same_text : (a b : List ℕ) → text_of a ≡ text_of b → a ≡ b
 same_text a b e = cc
@@ -131,10 +101,10 @@ same_text a b e = cc
 same_fault : (a b : Refusal) → refused a ≡ refused b → a ≡ b
 same_fault a b e = cc
 
-one_items : ItemsReadOnce → (decoded : Decoded) (i : ℕ) (list : List ElementValue) (a b : Answer) → ItemsAs decoded i list a → ItemsAs decoded i list b → a ≡ b
+one_items : ItemsReadOnce → (decoded : ShownElements) (i : ℕ) (list : List ElementValue) (a b : Answer) → ItemsAs decoded i list a → ItemsAs decoded i list b → a ≡ b
 one_items once decoded i [] a b p q = p ∙ sym q
 one_items once decoded i (e ∷ list) a b (inl (r, p, same)) (inl (s, q, also)) =
-    same ∙ ap (λ (x : Refusal). refused (at_element i x)) (same_fault r s (one_item once decoded e (refused r) (refused s) p q)) ∙ sym also
+    same ∙ ap (λ (x : Refusal). refused (in_element i x)) (same_fault r s (one_item once decoded e (refused r) (refused s) p q)) ∙ sym also
 one_items once decoded i (e ∷ list) a b (inl (r, p, same)) (inr (text, others, q, rest, also)) = absurd (cc (one_item once decoded e (refused r) (text_of text) p q))
 one_items once decoded i (e ∷ list) a b (inr (text, others, p, rest, same)) (inl (s, q, also)) = absurd (cc (one_item once decoded e (text_of text) (refused s) p q))
 one_items once decoded i (e ∷ list) a b (inr (text, others, p, rest, same)) (inr (text', others', q, rest', also)) =

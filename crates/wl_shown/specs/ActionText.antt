@@ -6,8 +6,9 @@ use Rattle.wl_action.specs.declared.action.Action.{Action}
 use Rattle.wl_action.specs.declared.action.Action.TheVariants.{MapAsk, MapReply, MapTeardown, Epcs, Eml, ReconfAsk, ReconfReply, AddBaAsk, AddBaReply, DelBa}
 use Rattle.wl_action.specs.declared.statuses.LinkStatus.{LinkStatus}
 use Rattle.wl_shown.specs.Parts.{named, shown_value, optional_text}
-use Rattle.wl_shown.specs.declared.item.Decoded.{Decoded}
-use Rattle.wl_shown.specs.declared.item.Decoded.TheVariants as which
+use Rattle.wl_shown.specs.declared.item.ShownElements.{ShownElements}
+use Rattle.wl_shown.specs.declared.item.ShownElements.TheVariants as which
+use Rattle.wl_elem.specs.declared.known.Known.TheVariants as knowns
 
 abbrev pub status_text : LinkStatus → List ℕ
 status_text s = decimal s.link ++ codes ":" ++ decimal s.status
@@ -77,13 +78,13 @@ action_text (AddBaReply token status params timeout elements) = addba_reply_text
 action_text (DelBa params reason rest) = delba_text params reason rest
 
 -- which of its elements are shown as their values
-abbrev pub decoded_in : Action → Decoded
-decoded_in (MapAsk token elements) = which.Mappings
-decoded_in (MapReply token status elements) = which.Mappings
+abbrev pub decoded_in : Action → ShownElements
+decoded_in (MapAsk token elements) = which.Only knowns.TidToLinkMapping
+decoded_in (MapReply token status elements) = which.Only knowns.TidToLinkMapping
 decoded_in (MapTeardown rest) = which.Nothing
 decoded_in (Epcs action rest) = which.Nothing
 decoded_in (Eml token control links update rest) = which.Nothing
-decoded_in (ReconfAsk token elements) = which.MultiLinks
+decoded_in (ReconfAsk token elements) = which.Only knowns.MultiLink
 decoded_in (ReconfReply token list rest) = which.Nothing
 decoded_in (AddBaAsk token params timeout start elements) = which.Nothing
 decoded_in (AddBaReply token status params timeout elements) = which.Nothing

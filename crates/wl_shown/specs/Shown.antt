@@ -1,13 +1,17 @@
 -- The shown line of some octets.
-use Rattle.std.specs.Prelude.{◌≡◌, ℕ, suc, ◌⊎◌, Bool, true, false, List, [], ◌∷◌, ◌++◌, Some, Result, Ok, Err, codes}
+use Rattle.std.specs.Prelude.{◌≡◌, ℕ, suc, ◌⊎◌, List, [], ◌∷◌, ◌++◌, Some, Result, Ok, Err, codes, if◌then◌else◌, Option, None}
 use Rattle.wl_elem.specs.declared.fault.Refusal.{Refusal}
 use Rattle.wl_elem.specs.declared.fault.Fault.{Fault}
 use Rattle.wl_elem.specs.declared.fault.Fault.TheVariants as faults
 use Rattle.wl_elem.specs.Element.{ElementValue}
-use Rattle.wl_elem.specs.Identity.{is_mapping, is_multi_link}
+use Rattle.wl_elem.specs.declared.known.Known.{Known}
+use Rattle.wl_elem.specs.declared.known.Known.TheVariants as knowns
+use Rattle.wl_elem.specs.Answers.{in_element}
+use Rattle.wl_elem.specs.Identity.{known_as}
 use Rattle.wl_elem.specs.ElementList.{Elems, ElemsRefused}
-use Rattle.wl_mle.specs.declared.multi_link.MultiLink.{MultiLink}
-use Rattle.wl_mle.specs.MultiLink.{MlOf, MlRefused}
+use Rattle.wl_action.specs.declared.known.KnownValue.{KnownValue}
+use Rattle.wl_action.specs.declared.known.KnownValue.TheVariants as values
+use Rattle.wl_action.specs.Known.{KnownOf, KnownRefused}
 use Rattle.wl_action.specs.declared.action.Action.{Action}
 use Rattle.wl_action.specs.Action as actions
 use Rattle.wl_action.specs.Action.{elements_of}
@@ -19,10 +23,8 @@ use Rattle.wl_assoc.specs.Association.{ReadsAsk, ReadsReply}
 use Rattle.wl_assoc.specs.Profiles.{is_basic, AsksAs, StatesAs}
 use Rattle.wl_frame.specs.Frame.{FrameValue}
 use Rattle.wl_frame.specs.Refusals as frames
-use Rattle.wl_ttlm.specs.Ttlm.{TtlmOf, TtlmRefused}
-use Rattle.wl_ttlm.specs.declared.ttlm.Ttlm.{Ttlm}
-use Rattle.wl_shown.specs.declared.item.Decoded.{Decoded}
-use Rattle.wl_shown.specs.declared.item.Decoded.TheVariants.{All, Mappings, MultiLinks, Basic, Nothing}
+use Rattle.wl_shown.specs.declared.item.ShownElements.{ShownElements}
+use Rattle.wl_shown.specs.declared.item.ShownElements.TheVariants.{All, Only, Basic, Nothing}
 use Rattle.wl_shown.specs.declared.line.Kind.{Kind}
 use Rattle.wl_shown.specs.declared.line.Kind.TheVariants as kinds
 use Rattle.wl_shown.specs.ActionText.{action_text, decoded_in}
@@ -36,43 +38,36 @@ use Rattle.wl_shown.specs.TtlmText.{ttlm_text}
 abbrev pub Answer : Type 0
 Answer = Result (List ℕ) Refusal
 
--- the refusal, in the element of this index
-abbrev pub at_element : ℕ → Refusal → Refusal
-at_element i r = record { element = Some i; sub = r.sub; inner = r.inner; place = r.place; why = r.why }
+-- what is shown for the value of an element that is shown
+abbrev pub known_text : KnownValue → List ℕ
+known_text (values.Mapping t) = ttlm_text t
+known_text (values.MultiLink m) = ml_text m
 
-abbrev pub MultiLinkAs : List ℕ → Answer → Type 0
-MultiLinkAs body (Ok text) = (value : MultiLink) × MlOf value body × (text ≡ ml_text value)
-MultiLinkAs body (Err refusal) = MlRefused body refusal
+-- the body of such an element, as its value, or the refusal
+abbrev pub KnownAs : Known → List ℕ → Answer → Type 0
+KnownAs known body (Ok text) = (value : KnownValue) × KnownOf known value body × (text ≡ known_text value)
+KnownAs known body (Err refusal) = KnownRefused known body refusal
 
-abbrev pub MappingAs : List ℕ → Answer → Type 0
-MappingAs body (Ok text) = (t : Ttlm) × TtlmOf t body × (text ≡ ttlm_text t)
-MappingAs body (Err refusal) = TtlmRefused body refusal
+-- found, where it is this one
+abbrev pub only : Known → Option Known → Option Known
+only knowns.TidToLinkMapping (Some knowns.TidToLinkMapping) = Some knowns.TidToLinkMapping
+only knowns.MultiLink (Some knowns.MultiLink) = Some knowns.MultiLink
+only _ _ = None
 
--- which elements of a list are shown as their values
+-- which elements of a list are shown as their values, and as which
+abbrev pub shown_as : ShownElements → ElementValue → Option Known
+shown_as All e = known_as e
+shown_as (Only known) e = only known (known_as e)
+shown_as Basic e = if is_basic e then Some knowns.MultiLink else None
+shown_as Nothing e = None
 
-abbrev pub is_shown_mapping : Decoded → ElementValue → Bool
-is_shown_mapping All e = is_mapping e
-is_shown_mapping Mappings e = is_mapping e
-is_shown_mapping MultiLinks e = false
-is_shown_mapping Basic e = false
-is_shown_mapping Nothing e = false
-
-abbrev pub is_shown_multi_link : Decoded → ElementValue → Bool
-is_shown_multi_link All e = is_multi_link e
-is_shown_multi_link Mappings e = false
-is_shown_multi_link MultiLinks e = is_multi_link e
-is_shown_multi_link Basic e = is_basic e
-is_shown_multi_link Nothing e = false
-
--- by whether it is shown as a mapping element, whether as a Multi-Link element
-abbrev pub ItemBy : Bool → Bool → ElementValue → Answer → Type 0
-ItemBy true multi_link e answer = MappingAs e.body answer
-ItemBy false true e answer = MultiLinkAs e.body answer
-ItemBy false false e answer = answer ≡ Ok (element_text e)
+abbrev pub ItemBy : Option Known → ElementValue → Answer → Type 0
+ItemBy (Some known) e answer = KnownAs known e.body answer
+ItemBy None e answer = answer ≡ Ok (element_text e)
 
 -- an element alone: as its value, or as octets
-abbrev pub ItemAs : Decoded → ElementValue → Answer → Type 0
-ItemAs decoded e answer = ItemBy (is_shown_mapping decoded e) (is_shown_multi_link decoded e) e answer
+abbrev pub ItemAs : ShownElements → ElementValue → Answer → Type 0
+ItemAs shown e answer = ItemBy (shown_as shown e) e answer
 
 -- a text before what is shown
 abbrev pub behind : List ℕ → Answer → Answer
@@ -81,11 +76,11 @@ behind text (Err refusal) = Err refusal
 
 -- The elements in order, the first of this index: each behind a space, or the refusal of the first
 -- that has one.
-abbrev pub ItemsAs : Decoded → ℕ → List ElementValue → Answer → Type 0
-ItemsAs decoded i [] answer = answer ≡ Ok []
-ItemsAs decoded i (e ∷ list) answer =
-    ((refusal : Refusal) × ItemAs decoded e (Err refusal) × (answer ≡ Err (at_element i refusal)))
-    ⊎ ((text : List ℕ) × (others : Answer) × ItemAs decoded e (Ok text) × ItemsAs decoded (suc i) list others × (answer ≡ behind (32 ∷ text) others))
+abbrev pub ItemsAs : ShownElements → ℕ → List ElementValue → Answer → Type 0
+ItemsAs shown i [] answer = answer ≡ Ok []
+ItemsAs shown i (e ∷ list) answer =
+    ((refusal : Refusal) × ItemAs shown e (Err refusal) × (answer ≡ Err (in_element i refusal)))
+    ⊎ ((text : List ℕ) × (others : Answer) × ItemAs shown e (Ok text) × ItemsAs shown (suc i) list others × (answer ≡ behind (32 ∷ text) others))
 
 -- the octets as a list of elements, or the refusal of the list or of an element of it
 abbrev pub ListAs : List ℕ → Answer → Type 0
@@ -155,8 +150,3 @@ IsFaultOf IsAnswer faults.Memory = Unit {0}
 -- new is old and a shown line behind it
 abbrev pub AddsShown : Kind → List ℕ → List ℕ → List ℕ → Type 0
 AddsShown kind octets old new = (line : List ℕ) × Shown kind octets line × (new ≡ old ++ line)
-
--- the fault with its refusal in the element of this index
-abbrev pub IsInElement : ℕ → Fault → Fault → Type 0
-IsInElement i (faults.Refused inside) fault = fault ≡ faults.Refused (at_element i inside)
-IsInElement i faults.Memory fault = fault ≡ faults.Memory

@@ -1,17 +1,17 @@
 //! The shown texts of action bodies.
 
-ghost use Rattle.std.specs.Prelude.{◌≡◌, ◌≤◌, ◌<◌, ◌^◌, ◌++◌, [], length, Ok, OnOk, IfErr, IfSome, IfNone, codes};
+ghost use Rattle.std.specs.Prelude.{◌≡◌, ◌≤◌, ◌<◌, ◌^◌, ◌++◌, [], length, Ok, OnOk, IfErr, codes};
 ghost use Rattle.std.specs.String.{string_bytes};
 ghost use Rattle.wl_elem.specs.Element.{body_limit};
 ghost use Rattle.wl_action.specs.Action.{elements_of};
 ghost use Rattle.wl_shown.specs.ActionText.{status_text, more_statuses, statuses_text, map_ask_text, map_reply_text, teardown_text, epcs_text, eml_text, reconf_ask_text, reconf_reply_text, addba_ask_text, addba_reply_text, delba_text, action_text, decoded_in};
 ghost use Rattle.wl_shown.specs.Shown.{ItemsAs, ActionAs, IsFaultOf, AddsText};
 
-use crate::item::{Decoded, push_items};
+use crate::item::{ShownElements, push_items};
 use crate::show::{push_last, push_number, push_rest, put_number, put_optional};
 use std::alloc::Global;
 use wl_action::{Action, LinkStatus, LinkStatuses, decode_action};
-use wl_elem::{Elements, Fault, Memory};
+use wl_elem::{Fault, Known, Memory};
 
 /// Adds a link and its status.
 fn push_status(out: &mut String, s: &LinkStatus) -> Result<(), Memory>
@@ -239,38 +239,21 @@ fn push_action(alloc: Global, out: &mut String, action: &Action) -> Result<(), M
 }
 
 /// Which elements of a body are shown as their values.
-fn decoded_in(action: &Action) -> Decoded
+fn decoded_in(action: &Action) -> ShownElements
     ensures { result ≡ decoded_in action.now }
 {
     match action {
-        Action::MapAsk { .. } | Action::MapReply { .. } => Decoded::Mappings,
-        Action::ReconfAsk { .. } => Decoded::MultiLinks,
+        Action::MapAsk { .. } | Action::MapReply { .. } => ShownElements::Only(
+            Known::TidToLinkMapping,
+        ),
+        Action::ReconfAsk { .. } => ShownElements::Only(Known::MultiLink),
         Action::MapTeardown { .. }
         | Action::Epcs { .. }
         | Action::Eml { .. }
         | Action::ReconfReply { .. }
         | Action::AddBaAsk { .. }
         | Action::AddBaReply { .. }
-        | Action::DelBa { .. } => Decoded::Nothing,
-    }
-}
-
-/// The elements of a body, where its kind has them.
-fn elements_in(action: &Action) -> Option<&Elements>
-    ensures some { IfSome result (λ list. list.now ≡ elements_of action.now) }
-    ensures none { IfNone result (elements_of action.now ≡ []) }
-{
-    match action {
-        Action::MapAsk { elements, .. }
-        | Action::MapReply { elements, .. }
-        | Action::ReconfAsk { elements, .. }
-        | Action::AddBaAsk { elements, .. }
-        | Action::AddBaReply { elements, .. } => Some(elements),
-        Action::MapTeardown { .. }
-        | Action::Epcs { .. }
-        | Action::Eml { .. }
-        | Action::ReconfReply { .. }
-        | Action::DelBa { .. } => None,
+        | Action::DelBa { .. } => ShownElements::Nothing,
     }
 }
 
@@ -280,7 +263,7 @@ fn push_elements(alloc: Global, out: &mut String, action: &Action) -> Result<(),
     ensures shown { OnOk result (AddsText (ItemsAs (decoded_in action.now) 0 (elements_of action.now)) (string_bytes out.old) (string_bytes out.new)) }
     ensures refused { IfErr result (IsFaultOf (ItemsAs (decoded_in action.now) 0 (elements_of action.now))) }
 {
-    match elements_in(action) {
+    match action.elements() {
         Some(list) => push_items(alloc, out, decoded_in(action), list),
         None => Ok(()),
     }

@@ -5,9 +5,9 @@ ghost use Rattle.std.specs.String.{string_bytes};
 ghost use Rattle.wl_elem.specs.Element.{body_limit};
 ghost use Rattle.wl_shown.specs.AssocText.{ask_text, reply_text, raw_items, link_fields, link_ask_text, asks_text, link_state_text, states_text};
 ghost use Rattle.wl_shown.specs.Shown.{ItemsAs, AskAs, ReplyAs, IsFaultOf};
-ghost use Rattle.wl_shown.specs.declared.item.Decoded.TheVariants.{Basic};
+ghost use Rattle.wl_shown.specs.declared.item.ShownElements.TheVariants.{Basic};
 
-use crate::item::{Decoded, push_items};
+use crate::item::{ShownElements, push_items};
 use crate::show::{push_element, push_last, put_address, put_number};
 use std::alloc::Global;
 use wl_assoc::{
@@ -115,7 +115,7 @@ fn put_read_ask(
     items.clear();
     items.push_str(" ")?;
     push_ask(items, ask)?;
-    match push_items(alloc, items, Decoded::Basic, &ask.elements) {
+    match push_items(alloc, items, ShownElements::Basic, &ask.elements) {
         Ok(()) => {}
         Err(fault) => return Err(fault),
     }
@@ -138,7 +138,7 @@ fn put_read_reply(
     items.clear();
     items.push_str(" ")?;
     push_reply(items, reply)?;
-    match push_items(alloc, items, Decoded::Basic, &reply.elements) {
+    match push_items(alloc, items, ShownElements::Basic, &reply.elements) {
         Ok(()) => {}
         Err(fault) => return Err(fault),
     }

@@ -1,119 +1,86 @@
 //! The items of an element list.
 
-ghost use Rattle.std.specs.Prelude.{◌≡◌, ◌<◌, ◌≤◌, ◌^◌, length, Some, Ok, OnOk, IfOk, IfErr, IsTrue};
+ghost use Rattle.std.specs.Prelude.{◌≡◌, ◌<◌, ◌≤◌, ◌^◌, ◌++◌, length, Ok, OnOk, IfErr, IfSome};
 ghost use Rattle.std.specs.String.{string_bytes};
-ghost use Rattle.wl_elem.specs.Element.{HasIdentity, body_limit};
-ghost use Rattle.wl_shown.specs.Shown.{MappingAs, MultiLinkAs, is_shown_mapping, is_shown_multi_link, ItemAs, ItemsAs, ListAs, IsFaultOf, IsInElement, AddsText};
+ghost use Rattle.wl_elem.specs.Element.{body_limit};
+ghost use Rattle.wl_elem.specs.Identity.{HasExtension, extension_of};
+ghost use Rattle.wl_shown.specs.Shown.{known_text, KnownAs, shown_as, ItemAs, ItemsAs, ListAs, IsFaultOf, AddsText};
 
 use crate::mapping::push_ttlm;
 use crate::multi_link::push_ml;
 use crate::show::push_element;
 use std::alloc::Global;
+use wl_action::{KnownValue, decode_known};
 use wl_assoc::is_basic;
-use wl_elem::{Element, Elements, Fault, Memory, Refusal, decode_elements};
-use wl_mle::decode_ml;
-use wl_ttlm::decode_ttlm;
+use wl_elem::{Element, Elements, Fault, Known, Memory, decode_elements};
 
 /// Which elements of a list are shown as their values; all others are shown as octets.
 #[derive(Clone, Copy, Debug, PartialEq, Eq)]
-pub enum Decoded {
-    /// Mapping elements and Multi-Link elements.
+pub enum ShownElements {
+    /// All that are decoded where they stand in a list.
     All,
-    /// Mapping elements.
-    Mappings,
-    /// Multi-Link elements.
-    MultiLinks,
+    /// These of them.
+    Only(Known),
     /// Basic Multi-Link elements.
     Basic,
     /// No elements.
     Nothing,
 }
 
-/// Whether an element is shown as a mapping element.
-fn is_shown_mapping(decoded: Decoded, e: &Element) -> bool
-    ensures exact { result ≡ is_shown_mapping decoded e.now }
-    ensures identity { IsTrue result → HasIdentity e.now 255 (Some 109) }
+/// As which element it is shown. None where it is shown as octets.
+#[tactic(auto, using(crate::proofs::Items::basic_identity))]
+fn shown_as(shown: ShownElements, e: &Element) -> Option<Known>
+    ensures exact { result ≡ shown_as shown e.now }
+    ensures identity { IfSome result (λ known. HasExtension e.now (extension_of known)) }
 {
-    match decoded {
-        Decoded::All | Decoded::Mappings => e.has_identity(255, Some(109)),
-        Decoded::MultiLinks | Decoded::Basic | Decoded::Nothing => false,
+    match shown {
+        ShownElements::All => e.known(),
+        ShownElements::Only(known) if e.known() == Some(known) => Some(known),
+        ShownElements::Basic if is_basic(e) => Some(Known::MultiLink),
+        _ => None,
     }
 }
 
-/// Whether an element is shown as a Multi-Link element.
-#[tactic(auto, using(crate::proofs::Identities::basic_identity))]
-fn is_shown_multi_link(decoded: Decoded, e: &Element) -> bool
-    ensures exact { result ≡ is_shown_multi_link decoded e.now }
-    ensures identity { IsTrue result → HasIdentity e.now 255 (Some 107) }
+/// Adds an element of this identity as its value.
+fn push_known(alloc: Global, out: &mut String, known: Known, e: &Element) -> Result<(), Fault>
+    requires { HasExtension e.now (extension_of known) }
+    ensures shown { OnOk result (AddsText (KnownAs known e.now.body) (string_bytes out.old) (string_bytes out.new)) }
+    ensures refused { IfErr result (IsFaultOf (KnownAs known e.now.body)) }
 {
-    match decoded {
-        Decoded::All | Decoded::MultiLinks => e.has_identity(255, Some(107)),
-        Decoded::Basic => is_basic(e),
-        Decoded::Mappings | Decoded::Nothing => false,
-    }
-}
-
-/// The fault of an element, with its index in the list.
-fn in_element(index: u32, fault: Fault) -> Fault
-    ensures { IsInElement index fault result }
-{
-    match fault {
-        Fault::Refused(refusal) => Fault::Refused(Refusal {
-            element: Some(index),
-            sub: refusal.sub,
-            inner: refusal.inner,
-            place: refusal.place,
-            why: refusal.why,
-        }),
-        Fault::Memory => Fault::Memory,
-    }
-}
-
-/// Adds a mapping element as its value.
-fn push_mapping(alloc: Global, out: &mut String, e: &Element) -> Result<(), Fault>
-    requires { HasIdentity e.now 255 (Some 109) }
-    ensures shown { OnOk result (AddsText (MappingAs e.now.body) (string_bytes out.old) (string_bytes out.new)) }
-    ensures refused { IfErr result (IsFaultOf (MappingAs e.now.body)) }
-{
-    let t = match decode_ttlm(alloc, e) {
-        Ok(t) => t,
-        Err(fault) => return Err(fault),
-    };
-    match push_ttlm(alloc, out, &t) {
-        Ok(()) => Ok(()),
-        Err(Memory) => Err(Fault::Memory),
-    }
-}
-
-/// Adds a Multi-Link element as its value.
-fn push_multi_link(alloc: Global, out: &mut String, e: &Element) -> Result<(), Fault>
-    requires { HasIdentity e.now 255 (Some 107) }
-    ensures shown { OnOk result (AddsText (MultiLinkAs e.now.body) (string_bytes out.old) (string_bytes out.new)) }
-    ensures refused { IfErr result (IsFaultOf (MultiLinkAs e.now.body)) }
-{
-    let value = match decode_ml(alloc, e) {
+    let value = match decode_known(alloc, known, e) {
         Ok(value) => value,
         Err(fault) => return Err(fault),
     };
-    match push_ml(alloc, out, &value) {
+    match push_value(alloc, out, &value) {
         Ok(()) => Ok(()),
         Err(Memory) => Err(Fault::Memory),
+    }
+}
+
+/// Adds the value of an element.
+fn push_value(alloc: Global, out: &mut String, value: &KnownValue) -> Result<(), Memory>
+    ensures { OnOk result (string_bytes out.new ≡ string_bytes out.old ++ known_text value.now) }
+{
+    match value {
+        KnownValue::Mapping(t) => push_ttlm(alloc, out, t),
+        KnownValue::MultiLink(m) => push_ml(alloc, out, m),
     }
 }
 
 /// Adds an element as its value, where such elements are decoded, or as octets.
-fn push_item(alloc: Global, out: &mut String, decoded: Decoded, e: &Element) -> Result<(), Fault>
-    ensures shown { OnOk result (AddsText (ItemAs decoded e.now) (string_bytes out.old) (string_bytes out.new)) }
-    ensures refused { IfErr result (IsFaultOf (ItemAs decoded e.now)) }
+fn push_item(
+    alloc: Global,
+    out: &mut String,
+    shown: ShownElements,
+    e: &Element,
+) -> Result<(), Fault>
+    ensures shown { OnOk result (AddsText (ItemAs shown e.now) (string_bytes out.old) (string_bytes out.new)) }
+    ensures refused { IfErr result (IsFaultOf (ItemAs shown e.now)) }
 {
-    if is_shown_mapping(decoded, e) {
-        return push_mapping(alloc, out, e);
+    match shown_as(shown, e) {
+        Some(known) => push_known(alloc, out, known, e),
+        None => Ok(push_element(alloc, out, e)?),
     }
-    if is_shown_multi_link(decoded, e) {
-        return push_multi_link(alloc, out, e);
-    }
-    push_element(alloc, out, e)?;
-    Ok(())
 }
 
 /// Adds the elements of a list in order, each behind a space; or answers the fault of the first that
@@ -121,18 +88,18 @@ fn push_item(alloc: Global, out: &mut String, decoded: Decoded, e: &Element) -> 
 pub fn push_items(
     alloc: Global,
     items: &mut String,
-    decoded: Decoded,
+    shown: ShownElements,
     list: &Elements,
 ) -> Result<(), Fault>
     requires { length list.now < 2 ^ 32 }
-    ensures shown { OnOk result (AddsText (ItemsAs decoded 0 list.now) (string_bytes items.old) (string_bytes items.new)) }
-    ensures refused { IfErr result (IsFaultOf (ItemsAs decoded 0 list.now)) }
+    ensures shown { OnOk result (AddsText (ItemsAs shown 0 list.now) (string_bytes items.old) (string_bytes items.new)) }
+    ensures refused { IfErr result (IsFaultOf (ItemsAs shown 0 list.now)) }
 {
     for (i, e) in list.as_slice().iter().enumerate() {
         items.push_str(" ")?;
-        match push_item(alloc, items, decoded, e) {
+        match push_item(alloc, items, shown, e) {
             Ok(()) => {}
-            Err(fault) => return Err(in_element(i as u32, fault)),
+            Err(fault) => return Err(fault.in_element(i)),
         }
     }
     Ok(())
@@ -150,5 +117,5 @@ pub fn put_list(alloc: Global, items: &mut String, octets: &[u8]) -> Result<(), 
         Err(fault) => return Err(fault),
     };
     items.clear();
-    push_items(alloc, items, Decoded::All, &list)
+    push_items(alloc, items, ShownElements::All, &list)
 }

@@ -1,6 +1,6 @@
 //! Laws of the definitions, each the contract of a function that does nothing of its own.
 
-ghost use Rattle.std.specs.Prelude.{◌≡◌, ℕ, List, Option};
+ghost use Rattle.std.specs.Prelude.{◌≡◌, ◌⊎◌, ℕ, List, Option};
 ghost use Rattle.wl_shown.specs.Decoded.{ShownLines, IsFirstBad};
 ghost use Rattle.wl_shown.specs.Checked.{VerdictLines};
 
@@ -9,10 +9,9 @@ pub fn shown_once()
     ensures { (input : List (List ℕ)) (text other : List ℕ) → ShownLines input text → ShownLines input other → text ≡ other }
 {
     wl_elem::read_once();
-    wl_ttlm::read_once();
-    wl_mle::read_once();
     wl_frame::read_once();
     wl_action::read_once();
+    wl_action::known_read_once();
     wl_assoc::ask_read_once();
     wl_assoc::reply_read_once();
     wl_assoc::asks_once();
@@ -24,10 +23,9 @@ pub fn judged_once()
     ensures { (input : List (List ℕ)) (text other : List ℕ) (line next : Option ℕ) → VerdictLines input text line → VerdictLines input other next → (text ≡ other) × (line ≡ next) }
 {
     wl_elem::read_once();
-    wl_ttlm::read_once();
-    wl_mle::read_once();
     wl_frame::read_once();
     wl_action::read_once();
+    wl_action::known_read_once();
     wl_assoc::ask_read_once();
     wl_assoc::reply_read_once();
     wl_assoc::asks_once();
@@ -35,7 +33,7 @@ pub fn judged_once()
 }
 
 /// What has verdicts has no line that is no hex line.
-pub fn judged_or_refused()
+pub fn judged_is_not_bad()
     ensures { (input : List (List ℕ)) (text : List ℕ) (refused : Option ℕ) (line : ℕ) → VerdictLines input text refused → IsFirstBad input line → ⊥ }
 {}
 
@@ -44,7 +42,35 @@ pub fn refused_once()
     ensures { (input : List (List ℕ)) (line other : ℕ) → IsFirstBad input line → IsFirstBad input other → line ≡ other }
 {}
 
-/// What is shown has no such line.
-pub fn shown_or_refused()
+/// What is shown has no line that is no hex line.
+pub fn shown_is_not_bad()
     ensures { (input : List (List ℕ)) (text : List ℕ) (line : ℕ) → ShownLines input text → IsFirstBad input line → ⊥ }
 {}
+
+/// Each input has a text that is shown for it, or a first line that is no hex line.
+pub fn text_is_shown_or_bad()
+    ensures { (input : List (List ℕ)) → ((text : List ℕ) × ShownLines input text) ⊎ ((line : ℕ) × IsFirstBad input line) }
+{
+    wl_elem::read_or_refused();
+    wl_frame::read_or_refused();
+    wl_action::read_or_refused();
+    wl_action::known_read_or_refused();
+    wl_assoc::ask_read_or_refused();
+    wl_assoc::reply_read_or_refused();
+    wl_assoc::asks_or_refused();
+    wl_assoc::states_or_refused();
+}
+
+/// Each input has verdicts on all its lines, or a first line that is no hex line.
+pub fn text_is_judged_or_bad()
+    ensures { (input : List (List ℕ)) → ((text : List ℕ) × (refused : Option ℕ) × VerdictLines input text refused) ⊎ ((line : ℕ) × IsFirstBad input line) }
+{
+    wl_elem::read_or_refused();
+    wl_frame::read_or_refused();
+    wl_action::read_or_refused();
+    wl_action::known_read_or_refused();
+    wl_assoc::ask_read_or_refused();
+    wl_assoc::reply_read_or_refused();
+    wl_assoc::asks_or_refused();
+    wl_assoc::states_or_refused();
+}

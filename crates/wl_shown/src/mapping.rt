@@ -30,6 +30,7 @@ fn push_map(out: &mut String, some: bool, tid: usize, map: Option<u16>) -> Resul
     }
 }
 
+/// Adds the mappings of the TIDs that have one, or `-` where none has.
 fn push_maps(out: &mut String, maps: &[Option<u16>]) -> Result<(), Memory>
     ensures { OnOk result (string_bytes out.new ≡ string_bytes out.old ++ sum_text (map_items 0 maps.now)) }
 {

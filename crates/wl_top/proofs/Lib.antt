@@ -1,3 +1,5 @@
 pub mod Simulations
 pub mod Endings
 pub mod OneRun
+pub mod OneEnding
+pub mod Faults

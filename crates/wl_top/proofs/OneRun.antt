@@ -10,6 +10,7 @@ use Rattle.wl_history.specs.declared.step.Journal.{Journal}
 use Rattle.wl_history.specs.declared.step.Step.{Step}
 use Rattle.wl_history.specs.Runs.{Plays, Stops}
 use Rattle.wl_io.specs.Reading.{AreAll}
+use Rattle.wl_io.specs.Seen.{Seen}
 use Rattle.wl_scene.specs.declared.scenario.Scenario.{Scenario}
 use Rattle.wl_scene.specs.declared.totals.Totals.{Totals}
 use Rattle.wl_scene.specs.Account.{Reports, IsReport}
@@ -19,7 +20,7 @@ use Rattle.wl_scene.specs.Scene.{SceneOf}
 use Rattle.wl_top.specs.declared.ending.Ending.{Ending}
 use Rattle.wl_top.specs.declared.ending.Ending.TheVariants.{Done, Forged}
 use Rattle.wl_top.specs.Simulated.{HasRun, IsOutput, IsWhole}
-use Rattle.wl_top.specs.Run.{Call, IsInput, Ran, SameRun}
+use Rattle.wl_top.specs.Run.{IsInput, Ran, SameRun}
 
 abbrev pub SceneOnce : Type 0
 SceneOnce = (text : List ℕ) (a b : Result Scenario ℕ) → SceneOf text a → SceneOf text b → a ≡ b
@@ -33,13 +34,13 @@ pub record PlayedOnce : Type 0 where
   pub stops : (text : Sealing) (start : Start) (items : List Item) (a b : List Step) (opened other : Opened) → Stops text start items [] a opened → Stops text start items [] b other → a ≡ b
   pub either : (text : Sealing) (start : Start) (items : List Item) (a b : List Step) (opened : Opened) → Plays text start items [] a → Stops text start items [] b opened → ⊥
 
-one_input : (left left' : Option (List ℕ)) (told a b : List ℕ) → left ≡ Some told → AreAll left left' a → AreAll left left' b → a ≡ b
-one_input None left' told a b is all all' = absurd (cc is)
-one_input (Some bytes) left' told a b is all all' = all.0 ∙ sym all'.0
+told_all : (left left' : Option (List ℕ)) (told text : List ℕ) → left ≡ Some told → AreAll left left' text → text ≡ told
+told_all None left' told text is all = absurd (cc is)
+told_all (Some bytes) left' told text is all = let same : told ≡ bytes = cc in all.0 ∙ sym same
 
-told_all : (left left' : Option (List ℕ)) (told a : List ℕ) → left ≡ Some told → AreAll left left' a → AreAll left left' told
-told_all None left' told a is all = absurd (cc is)
-told_all (Some bytes) left' told a is all = let same : told ≡ bytes = cc in (same, all.1)
+-- what was read of a source that tells its bytes
+pub read_is : (source : Seen) (told text : List ℕ) → source.bytes ≡ Some told → IsInput source text → text ≡ told
+read_is source told text is is_input = told_all source.bytes source.bytes' told text is is_input.0
 
 abbrev journal_of : Start → List Step → Journal
 journal_of start steps = record { start = start; steps = steps }
@@ -74,7 +75,7 @@ one_out law start steps a b o o' = o.out_is ∙ ap (λ (r : List ℕ). journal_l
 
 -- two histories of one input
 module _ (reads : SceneOnce) (plays_once : PlayedOnce) (law : ReportOnce) (text : Sealing) (input : List ℕ) where
-  one_whole : (e e' : Ending) (j j' : Journal) (out out' : List ℕ) → IsWhole text input e j out → IsWhole text input e' j' out' → (e ≡ e') × (j ≡ j') × (out ≡ out')
+  pub one_whole : (e e' : Ending) (j j' : Journal) (out out' : List ℕ) → IsWhole text input e j out → IsWhole text input e' j' out' → (e ≡ e') × (j ≡ j') × (out ≡ out')
   one_whole e e' j j' out out' w w' =
       let scene : w'.scene ≡ w.scene = same_scene w'.scene w.scene (reads input (Ok w'.scene) (Ok w.scene) w'.is_scene w.is_scene) in
       let run' : HasRun text w.scene e' j'.steps = subst (λ (s : Scenario). HasRun text s e' j'.steps) scene w'.has_run in
@@ -83,17 +84,20 @@ module _ (reads : SceneOnce) (plays_once : PlayedOnce) (law : ReportOnce) (text 
       let output' : IsOutput w.scene.start j.steps out' = subst (λ (x : List Step). IsOutput w.scene.start x out') (sym steps) (subst (λ (s : Scenario). IsOutput s.start j'.steps out') scene w'.is_output) in
       (ending, ap (λ (x : Start). journal_of x j.steps) start ∙ ap (λ (x : List Step). journal_of j'.start x) steps, one_out law w.scene.start j.steps out out' w.is_output output')
 
-  pub one_ran : (call : Call) (told : List ℕ) → call.text ≡ text → call.left ≡ Some told → told ≡ input → (e e' : Ending) (j j' : Option Journal) (out out' : List ℕ) → Ran call e j out → Ran call e' j' out' → SameRun e e' j j' out out'
-  one_ran call told same is told_is e e' j j' out out' r r' =
-      let at : r.input ≡ input = one_input call.left call.left' told r.input told is r.is_input.0 (told_all call.left call.left' told r.input is r.is_input.0) ∙ told_is in
-      let at' : r'.input ≡ input = one_input call.left call.left' told r'.input told is r'.is_input.0 (told_all call.left call.left' told r'.input is r'.is_input.0) ∙ told_is in
-      let whole : IsWhole text input e r.made out = subst (λ (x : List ℕ). IsWhole text x e r.made out) at (subst (λ (z : Sealing). IsWhole z r.input e r.made out) same r.whole) in
-      let whole' : IsWhole text input e' r'.made out' = subst (λ (x : List ℕ). IsWhole text x e' r'.made out') at' (subst (λ (z : Sealing). IsWhole z r'.input e' r'.made out') same r'.whole) in
+  pub one_ran : (source : Seen) → source.bytes ≡ Some input → (e e' : Ending) (j j' : Option Journal) (out out' : List ℕ) → Ran source text e j out → Ran source text e' j' out' → SameRun e e' j j' out out'
+  one_ran source is e e' j j' out out' r r' =
+      let at : r.input ≡ input = read_is source input r.input is r.is_input in
+      let at' : r'.input ≡ input = read_is source input r'.input is r'.is_input in
+      let whole : IsWhole text input e r.made out = subst (λ (x : List ℕ). IsWhole text x e r.made out) at r.whole in
+      let whole' : IsWhole text input e' r'.made out' = subst (λ (x : List ℕ). IsWhole text x e' r'.made out') at' r'.whole in
       let (ending, journal, out_same) = one_whole e e' r.made r'.made out out' whole whole' in
       record { ending_same = ending; journal_same = r.journal_is ∙ ap Some journal ∙ sym r'.journal_is; text_same = out_same }
 
-pub refused_ran : SceneOnce → (call : Call) (told input : List ℕ) (place : ℕ) (e : Ending) (j : Option Journal) (out : List ℕ) → call.left ≡ Some told → Ran call e j out → IsInput call input → SceneOf input (Err place) → ⊥
-refused_ran reads call told input place e j out is r is_input refused =
-    let at : r.input ≡ input = one_input call.left call.left' told r.input input is r.is_input.0 is_input.0 in
-    let both : read_as r.whole.scene ≡ Err place = reads input (Ok r.whole.scene) (Err place) (subst (λ (x : List ℕ). SceneOf x (Ok r.whole.scene)) at r.whole.is_scene) refused in
-    absurd (cc both)
+-- no text is both a scenario and none
+pub no_scene : SceneOnce → (text : Sealing) (input : List ℕ) (e : Ending) (j : Journal) (out : List ℕ) (place : ℕ) → IsWhole text input e j out → SceneOf input (Err place) → ⊥
+no_scene reads text input e j out place w refused = let both : read_as w.scene ≡ Err place = reads input (Ok w.scene) (Err place) w.is_scene refused in absurd (cc both)
+
+pub refused_ran : SceneOnce → (source : Seen) (text : Sealing) (told input : List ℕ) (place : ℕ) (e : Ending) (j : Option Journal) (out : List ℕ) → source.bytes ≡ Some told → Ran source text e j out → IsInput source input → SceneOf input (Err place) → ⊥
+refused_ran reads source text told input place e j out is r is_input refused =
+    let at : r.input ≡ input = read_is source told r.input is r.is_input ∙ sym (read_is source told input is is_input) in
+    no_scene reads text input e r.made out place (subst (λ (x : List ℕ). IsWhole text x e r.made out) at r.whole) refused

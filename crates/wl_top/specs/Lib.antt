@@ -1,3 +1,4 @@
 pub mod Simulated
 pub mod Run
+pub mod Settled
 pub mod Status

@@ -1,5 +1,5 @@
 -- The lines that tell how a run ended: the status with its place, and what they mean in words.
-use Rattle.std.specs.Prelude.{ℕ, Bool, true, false, ◌==◌, if◌then◌else◌, List, [], ◌∷◌, ◌++◌, Option, Some, None, codes}
+use Rattle.std.specs.Prelude.{ℕ, ◌==◌, if◌then◌else◌, List, [], ◌∷◌, ◌++◌, Option, Some, codes}
 use Rattle.std.specs.Fmt.{decimal}
 use Rattle.wl_top.specs.declared.run.Task.{Task}
 use Rattle.wl_top.specs.declared.run.Task.TheVariants.{Simulate}

@@ -10,16 +10,17 @@ use wl_history::Journal;
 /// | status | comes | `place` |
 /// |---|---|---|
 /// | 0 done | the input was read to its end, all was done and written | 0 |
-/// | 1 usage | exactly where the words are no command | 0 |
+/// | 1 usage | exactly where the words are no command; source and sink are untouched | 0 |
 /// | 2 refused | exactly where the input of `run` is no scenario, or a line of `decode` or `check` no hex line; nothing is written | the command's or the line's number, from 1; 0 for what isn't a command |
-/// | 3 read fault | only where the source's count of faults rose; nothing is written | 0 |
-/// | 4 write fault | only where the sink's count of faults rose; the first bytes are written | how many |
+/// | 3 read fault | exactly where the source's count of faults rose; nothing is written | 0 |
+/// | 4 write fault | exactly where the sink's count of faults rose; the first bytes are written | how many |
 /// | 5 forged | exactly at the first frame that opens and that its sender never booked; the texts of the steps before it are written | how many steps |
 /// | 7 check failed | exactly where a line of `check` is refused; all verdicts are written | the first such line's number, from 1 |
 /// | 8 too long | exactly where more than 16,777,216 bytes were read; nothing is written | 16,777,217 |
 /// | 9 memory | at any time before the first byte is written; nothing is written | 0 |
 ///
-/// The causes are met in the order 1, 3, 8, 2, 5, 7, 4.
+/// The causes are met in the order 1, 3, 8, 2, 5, 7, 4. A count of faults that stood at 2^64 - 1 before the run
+/// can't rise, and stays there at every status.
 #[derive(Debug, Drop)]
 pub struct Outcome {
     pub status: u8,

@@ -8,6 +8,6 @@ mod simulate;
 mod status;
 
 pub use ending::{Ending, Outcome};
-pub use laws::{one_run, read_or_too_long};
+pub use laws::{faults_told, one_ending, one_run, read_or_too_long, settled, some_ending};
 pub use run::{Task, mld_run, task_of};
 pub use status::{write_reason, write_status};

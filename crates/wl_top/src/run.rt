@@ -2,7 +2,7 @@
 
 ghost use Rattle.std.specs.Prelude.{◌≡◌, ◌↔◌, ℕ, List, map, IsTrue, IfSome, IfNone};
 ghost use Rattle.std.specs.String.{string_bytes};
-ghost use Rattle.wl_frame.specs.Sealing.{Sealing};
+ghost use Rattle.wl_io.specs.Seen.{seen};
 ghost use Rattle.wl_top.specs.declared.run.Task.{Task};
 ghost use Rattle.wl_top.specs.declared.run.Task.TheVariants.{Simulate as IsSimulate};
 ghost use Rattle.wl_top.specs.Run.{CheckEnds, verdict_ending, DecodeEnds, IsOutcome, IsReadEnding, IsTask, task_word};
@@ -74,18 +74,7 @@ fn unread(fault: ReadFault) -> Ending
 
 /// Shows hex lines.
 fn decode<S: Source, K: Sink>(alloc: Global, source: &mut S, sink: &mut K) -> Ending
-    ensures { (words : List (List ℕ)) (text : Sealing) → DecodeEnds (record {
-      words = words;
-      left = S.left source.old;
-      left' = S.left source.new;
-      read_faults = S.faults source.old;
-      read_faults' = S.faults source.new;
-      taken = K.taken sink.old;
-      taken' = K.taken sink.new;
-      write_faults = K.faults sink.old;
-      write_faults' = K.faults sink.new;
-      text = text;
-    }) result }
+    ensures { DecodeEnds (seen S.left S.faults source.old source.new) (seen K.taken K.faults sink.old sink.new) result }
 {
     let input = match read_all(alloc, source) {
         Ok(input) => input,
@@ -114,18 +103,7 @@ fn verdict_ending(refused: Option<u64>) -> Ending
 
 /// Judges hex lines.
 fn check<S: Source, K: Sink>(alloc: Global, source: &mut S, sink: &mut K) -> Ending
-    ensures { (words : List (List ℕ)) (text : Sealing) → CheckEnds (record {
-      words = words;
-      left = S.left source.old;
-      left' = S.left source.new;
-      read_faults = S.faults source.old;
-      read_faults' = S.faults source.new;
-      taken = K.taken sink.old;
-      taken' = K.taken sink.new;
-      write_faults = K.faults sink.old;
-      write_faults' = K.faults sink.new;
-      text = text;
-    }) result }
+    ensures { CheckEnds (seen S.left S.faults source.old source.new) (seen K.taken K.faults sink.old sink.new) result }
 {
     let input = match read_all(alloc, source) {
         Ok(input) => input,
@@ -149,18 +127,7 @@ fn run<S: Source, K: Sink, Z: Sealer>(
     sink: &mut K,
     sealer: &Z,
 ) -> Outcome
-    ensures outcome { (words : List (List ℕ)) → IsTask words IsSimulate → IsOutcome (record {
-      words = words;
-      left = S.left source.old;
-      left' = S.left source.new;
-      read_faults = S.faults source.old;
-      read_faults' = S.faults source.new;
-      taken = K.taken sink.old;
-      taken' = K.taken sink.new;
-      write_faults = K.faults sink.old;
-      write_faults' = K.faults sink.new;
-      text = Z.text sealer.now;
-    }) result }
+    ensures outcome { (words : List (List ℕ)) → IsTask words IsSimulate → IsOutcome words (seen S.left S.faults source.old source.new) (seen K.taken K.faults sink.old sink.new) (Z.text sealer.now) result }
     ensures safe { IsSafeIf (Z.text sealer.now) result.journal }
 {
     let input = match read_all(alloc, source) {
@@ -190,8 +157,8 @@ fn run<S: Source, K: Sink, Z: Sealer>(
 ///   is the text of the one legal history that the scenario's commands make with this sealer, up to
 ///   the first frame that opens and was never booked; that history is safe.
 ///
-/// Nothing is written before the whole input was read and the whole text made. See [`Outcome`] for how
-/// a run ends, and when.
+/// Nothing is written before the whole input was read and the whole text made. Where the words are no
+/// command, nothing is read either. See [`Outcome`] for how a run ends, and when.
 pub fn mld_run<S: Source, K: Sink, Z: Sealer>(
     alloc: Global,
     words: &[String],
@@ -199,18 +166,7 @@ pub fn mld_run<S: Source, K: Sink, Z: Sealer>(
     sink: &mut K,
     sealer: &Z,
 ) -> Outcome
-    ensures outcome { IsOutcome (record {
-      words = map string_bytes words.now;
-      left = S.left source.old;
-      left' = S.left source.new;
-      read_faults = S.faults source.old;
-      read_faults' = S.faults source.new;
-      taken = K.taken sink.old;
-      taken' = K.taken sink.new;
-      write_faults = K.faults sink.old;
-      write_faults' = K.faults sink.new;
-      text = Z.text sealer.now;
-    }) result }
+    ensures outcome { IsOutcome (map string_bytes words.now) (seen S.left S.faults source.old source.new) (seen K.taken K.faults sink.old sink.new) (Z.text sealer.now) result }
     ensures safe { IsSafeIf (Z.text sealer.now) result.journal }
 {
     match task_of(words) {

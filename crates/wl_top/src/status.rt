@@ -2,8 +2,8 @@
 
 ghost use Rattle.std.specs.Prelude.{◌≡◌, ◌+◌, ◌≤◌, ◌++◌, length, OnOk, IfErr};
 ghost use Rattle.std.specs.Fmt.{decimal};
-ghost use Rattle.wl_io.specs.Sink.{Takes};
-ghost use Rattle.wl_io.specs.Writing.{IsWriteFault};
+ghost use Rattle.wl_io.specs.Seen.{seen};
+ghost use Rattle.wl_io.specs.Writing.{IsWriteFault, IsWritten};
 ghost use Rattle.wl_top.specs.Status.{reason, refused, refused_scenario, status_line};
 
 use crate::run::Task;
@@ -13,11 +13,12 @@ use wl_io::{Sink, WriteFault, write_all};
 
 /// Writes `mld: status S place P` and a line end, with both numbers in decimal digits.
 ///
-/// Ok where the sink took the whole line. Otherwise the sink's count of faults rose, and it took the
-/// first `taken` bytes of the line. It takes no memory.
+/// Ok where the sink took the whole line, and its count of faults is as it was. Otherwise that count
+/// rose, and the sink took the first `taken` bytes of the line. It takes no memory.
 pub fn write_status<K: Sink>(status: u8, place: u64, sink: &mut K) -> Result<(), WriteFault>
-    ensures ok { OnOk result (Takes (K.taken sink.old) (K.taken sink.new) (status_line status place)) }
-    ensures fault { IfErr result (λ e. IsWriteFault (K.taken sink.old) (K.taken sink.new) (K.faults sink.old) (K.faults sink.new) (status_line status place) e.taken) }
+    ensures count { K.faults sink.old ≤ K.faults sink.new }
+    ensures ok { OnOk result (IsWritten (seen K.taken K.faults sink.old sink.new) (status_line status place)) }
+    ensures fault { IfErr result (λ e. IsWriteFault (seen K.taken K.faults sink.old sink.new) (status_line status place) e.taken) }
 {
     let mut digits = Buffer::new();
     let mut line = ArrayString::<128>::new();
@@ -105,16 +106,17 @@ fn reason(task: Option<Task>, status: u8, place: u64) -> Reason
 /// Writes what a status and its place mean in words, for the task that the words asked for: one line,
 /// and at status 1 the commands behind it, a line each. Nothing for status 0, or a number that is no status.
 ///
-/// Ok where the sink took the whole text. Otherwise the sink's count of faults rose, and it took the
-/// first `taken` bytes of the text. It takes no memory.
+/// Ok where the sink took the whole text, and its count of faults is as it was. Otherwise that count
+/// rose, and the sink took the first `taken` bytes of the text. It takes no memory.
 pub fn write_reason<K: Sink>(
     task: Option<Task>,
     status: u8,
     place: u64,
     sink: &mut K,
 ) -> Result<(), WriteFault>
-    ensures ok { OnOk result (Takes (K.taken sink.old) (K.taken sink.new) (reason task status place)) }
-    ensures fault { IfErr result (λ e. IsWriteFault (K.taken sink.old) (K.taken sink.new) (K.faults sink.old) (K.faults sink.new) (reason task status place) e.taken) }
+    ensures count { K.faults sink.old ≤ K.faults sink.new }
+    ensures ok { OnOk result (IsWritten (seen K.taken K.faults sink.old sink.new) (reason task status place)) }
+    ensures fault { IfErr result (λ e. IsWriteFault (seen K.taken K.faults sink.old sink.new) (reason task status place) e.taken) }
 {
     let line = reason(task, status, place);
     write_all(sink, line.as_str().as_bytes())

@@ -1,6 +1,4 @@
-pub mod Cuts
-pub mod Mapping
-pub mod Numbers
+pub mod Maps
+pub mod Fields
 pub mod Once
-pub mod Takes
 pub mod Writing

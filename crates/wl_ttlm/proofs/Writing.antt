@@ -1,36 +1,17 @@
 -- Writing the mappings and their bits one after the other, as loops do.
 use mir.Val.{bool_byte}
-use Rattle.std.proofs.Common.{◌≡◌, ℕ, zero, suc, ◌+◌, ◌*◌, ◌^◌, ◌<◌, ◌≤◌, Bool, true, false, List, [], ◌∷◌, ◌++◌, length, take, drop, get_or, Option, refl, sym, ap, ◌∙◌, append_assoc, arith, length-drop}
+use Rattle.std.proofs.Common.{◌≡◌, ℕ, suc, ◌+◌, ◌*◌, ◌<◌, Bool, true, false, List, ◌++◌, length, take, drop, get_or, Option, refl, sym, ap, ◌∙◌, arith, length-drop}
 use Rattle.std.specs.Prelude.{is_some}
-use Rattle.std.proofs.Math.Nat.{pow-suc}
-use Rattle.std.proofs.lemmas.List.{append-nil}
-use Rattle.std.proofs.Math.Seq.{take-suc, drop-cons}
-use Rattle.wl_ttlm.specs.Fields.{field}
-use Rattle.wl_ttlm.specs.Ttlm.{bit, presence, map_width, mappings}
-use Rattle.wl_ttlm.proofs.Numbers.{bit_small}
-
-mappings-append : (narrow : Bool) (a b : List (Option ℕ)) → mappings narrow (a ++ b) ≡ mappings narrow a ++ mappings narrow b
-mappings-append narrow [] b = refl
-mappings-append narrow (map ∷ a) b = ap (λ (x : List ℕ). field (map_width narrow) map ++ x) (mappings-append narrow a b) ∙ sym (append_assoc (field (map_width narrow) map) (mappings narrow a) (mappings narrow b))
+use Rattle.std.proofs.lemmas.List.{flat_map_more, take_more}
+use Rattle.std.proofs.Math.Seq.{drop-cons}
+use Rattle.wl_elem.specs.Bits.{bit}
+use Rattle.wl_elem.specs.Fields.{field}
+use Rattle.wl_ttlm.specs.Ttlm.{presence, mappings}
+use Rattle.wl_ttlm.proofs.Fields.{presence_below}
 
 -- one mapping more
-pub mappings_more : (narrow : Bool) (maps : List (Option ℕ)) (i : ℕ) (d : Option ℕ) → i < length maps → mappings narrow (take (i + 1) maps) ≡ mappings narrow (take i maps) ++ field (map_width narrow) (get_or maps i d)
-mappings_more narrow maps i d lt =
-    let next : i + 1 ≡ suc i = omega arith in
-    ap (λ (n : ℕ). mappings narrow (take n maps)) next ∙ ap (mappings narrow) (take-suc maps i d lt) ∙ mappings-append narrow (take i maps) (get_or maps i d ∷ []) ∙ ap (λ (x : List ℕ). mappings narrow (take i maps) ++ x) (append-nil (field (map_width narrow) (get_or maps i d)))
-
-presence_below : (n : ℕ) (maps : List (Option ℕ)) → length maps ≤ n → presence maps < 2 ^ n
-presence_below zero [] le = let e : 2 ^ 0 ≡ 1 = refl in omega arith
-presence_below zero (map ∷ maps) le = absurd (omega arith)
-presence_below (suc n) [] le =
-    let e : 2 ^ suc n ≡ 2 ^ n * 2 = pow-suc 2 n in
-    let some : 0 < 2 ^ n = presence_below n [] (omega arith) in
-    omega arith
-presence_below (suc n) (map ∷ maps) le =
-    let e : 2 ^ suc n ≡ 2 ^ n * 2 = pow-suc 2 n in
-    let more : presence maps < 2 ^ n = presence_below n maps (omega arith) in
-    let small = bit_small (is_some map) in
-    omega arith
+pub mappings_more : (width : ℕ) (maps : List (Option ℕ)) (i : ℕ) (d : Option ℕ) (before : List ℕ) → i < length maps → (before ++ mappings width (take i maps)) ++ field width (get_or maps i d) ≡ before ++ mappings width (take (i + 1) maps)
+mappings_more width maps i d before lt = flat_map_more (field width) before (take i maps) (get_or maps i d) ∙ ap (λ (x : List (Option ℕ)). before ++ mappings width x) (sym (take_more maps i d lt))
 
 -- the bits of the TIDs from this one up
 pub high_bits : (maps : List (Option ℕ)) (i : ℕ) → length maps ≡ 8 → 0 < i → presence (drop i maps) < 128

@@ -1,4 +1,2 @@
-pub mod Fields
 pub mod Ttlm
 pub mod Reading
-pub mod Fitting

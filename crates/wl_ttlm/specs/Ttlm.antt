@@ -13,17 +13,14 @@
 -- present B3, expected duration present B4, narrow B5, spare B6 and B7. Numbers have their lowest
 -- octet first.
 use Rattle.std.specs.Prelude.{◌≡◌, ◌≢◌, ℕ, zero, suc, ◌+◌, ◌*◌, ◌/◌, ◌%◌, ◌<◌, ◌≤◌, ◌==◌, ◌⊎◌, not, Bool, true, false, is_some, List, [], ◌∷◌, ◌++◌, length, slice_index, Option, Some, None, Result, Ok, Err}
-use Rattle.std.specs.List.{AllByRecursion}
+use Rattle.std.specs.List.{AllByRecursion, flat_map}
 use Rattle.wl_elem.specs.declared.fault.Refusal.{Refusal}
 use Rattle.wl_elem.specs.declared.why.Why.TheVariants.{Truncated, ReservedDirection}
 use Rattle.wl_elem.specs.Answers.{refusal_at}
+use Rattle.wl_elem.specs.Bits.{bit, has_bit}
+use Rattle.wl_elem.specs.Element.{body_limit}
+use Rattle.wl_elem.specs.Fields.{field, Fits, first_cut, width_if}
 use Rattle.wl_ttlm.specs.declared.ttlm.Ttlm.{Ttlm}
-use Rattle.wl_ttlm.specs.Fields.{field, Fits, first_cut, width_if}
-
--- a flag as a bit
-abbrev pub bit : Bool → ℕ
-bit true = 1
-bit false = 0
 
 abbrev pub control : Ttlm → ℕ
 control t = t.direction + 4 * bit t.default + 8 * bit (is_some t.switch) + 16 * bit (is_some t.duration) + 32 * bit t.narrow + 64 * t.spare
@@ -33,21 +30,21 @@ abbrev pub presence : List (Option ℕ) → ℕ
 presence [] = 0
 presence (map ∷ maps) = bit (is_some map) + 2 * presence maps
 
-abbrev pub presence_field : Bool → List (Option ℕ) → List ℕ
-presence_field true maps = []
-presence_field false maps = presence maps ∷ []
+-- the presence octet, unless the default mapping stands for it
+abbrev pub presence_in : Bool → List (Option ℕ) → Option ℕ
+presence_in true maps = None
+presence_in false maps = Some (presence maps)
 
 abbrev pub map_width : Bool → ℕ
 map_width true = 1
 map_width false = 2
 
-abbrev pub mappings : Bool → List (Option ℕ) → List ℕ
-mappings narrow [] = []
-mappings narrow (map ∷ maps) = field (map_width narrow) map ++ mappings narrow maps
+abbrev pub mappings : ℕ → List (Option ℕ) → List ℕ
+mappings width maps = flat_map (field width) maps
 
 -- the body that the value is written in
 abbrev pub spelling : Ttlm → List ℕ
-spelling t = control t ∷ (presence_field t.default t.maps ++ (field 2 t.switch ++ (field 3 t.duration ++ (mappings t.narrow t.maps ++ t.tail))))
+spelling t = control t ∷ (field 1 (presence_in t.default t.maps) ++ (field 2 t.switch ++ (field 3 t.duration ++ (mappings (map_width t.narrow) t.maps ++ t.tail))))
 
 -- what has a body
 pub record IsTtlm (t : Ttlm) : Type 0 where
@@ -67,26 +64,26 @@ pub record TtlmOf (t : Ttlm) (body : List ℕ) : Type 0 where
 
 -- some body, no longer than an element's may be, is this value's
 abbrev pub IsWritable : Ttlm → Type 0
-IsWritable t = (body : List ℕ) × (length body ≤ 16777216) × TtlmOf t body
+IsWritable t = (body : List ℕ) × (length body ≤ body_limit) × TtlmOf t body
 
--- bit k of a control octet
-abbrev pub has_bit : ℕ → ℕ → Bool
-has_bit octet place = octet / place % 2 == 1
+-- the bits of the TIDs that have a mapping, where the octet behind the control octet is `first`
+abbrev pub mapped : Bool → ℕ → ℕ
+mapped true first = 0
+mapped false first = first
 
--- the widths of so many mappings, by the bits of the presence octet
-abbrev pub map_widths : ℕ → ℕ → ℕ → List ℕ
+-- the widths of so many mappings, by these bits
+unfoldable pub map_widths : ℕ → ℕ → ℕ → List ℕ
 map_widths zero present width = []
 map_widths (suc count) present width = width_if (present % 2 == 1) width ∷ map_widths count (present / 2) width
 
--- the widths of the fields behind the control octet, where the octet after it is `present`
+-- the widths of the fields behind the control octet
 abbrev pub widths : ℕ → ℕ → List ℕ
-widths control present = width_if (not (has_bit control 4)) 1 ∷ width_if (has_bit control 8) 2 ∷ width_if (has_bit control 16) 3
-    ∷ map_widths 8 (width_if (not (has_bit control 4)) present) (map_width (has_bit control 32))
+widths control present = width_if (not (has_bit control 4)) 1 ∷ width_if (has_bit control 8) 2 ∷ width_if (has_bit control 16) 3 ∷ map_widths 8 present (map_width (has_bit control 32))
 
 -- a field behind the control octet isn't whole, at this place of the body
 pub record IsCutAt (control : ℕ) (rest : List ℕ) (place : ℕ) : Type 0 where
   pub left : ℕ
-  pub cut : first_cut (widths control (slice_index rest 0)) (length rest) ≡ Some left
+  pub cut : first_cut (widths control (mapped (has_bit control 4) (slice_index rest 0))) (length rest) ≡ Some left
   pub counted : place + left ≡ suc (length rest)
 
 -- The body is refused: it has no control octet, the direction is 3, or a field isn't whole.

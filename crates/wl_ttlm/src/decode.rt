@@ -1,112 +1,88 @@
 //! Reading the element's body.
 
-ghost use Rattle.std.specs.Prelude.{◌≡◌, ◌≤◌, List, ℕ, Option, Some, Result, length};
+ghost use Rattle.std.specs.Prelude.{◌≡◌, ◌≤◌, ◌<◌, ◌⊎◌, ◌∷◌, Result, IfOk, length, slice_index};
 ghost use Rattle.wl_elem.specs.declared.fault.Refusal.{Refusal};
-ghost use Rattle.wl_elem.specs.declared.fault.Fault.TheVariants.{Refused};
-ghost use Rattle.wl_elem.specs.Answers.{Answers, AnswersOnly, refusal_at};
-ghost use Rattle.wl_elem.specs.Element.{HasIdentity, body_limit};
+ghost use Rattle.wl_elem.specs.Fields.{total};
+ghost use Rattle.wl_elem.specs.Answers.{Answers, AnswersOnly};
+ghost use Rattle.wl_elem.specs.Element.{body_limit};
+ghost use Rattle.wl_elem.specs.Identity.{HasExtension, tid_to_link_mapping};
 ghost use Rattle.wl_ttlm.specs.declared.ttlm.Ttlm.{Ttlm};
-ghost use Rattle.wl_ttlm.specs.Reading.{Gives, field_at, presence_at, maps_at, value_at, reading};
-ghost use Rattle.wl_ttlm.specs.Ttlm.{ReadAs, map_width};
+ghost use Rattle.wl_ttlm.specs.Reading.{maps_at, value_at};
+ghost use Rattle.wl_ttlm.specs.Ttlm.{ReadAs, mapped, map_widths, widths};
 
-use crate::stop::Stop;
-use crate::ttlm::Ttlm;
+use crate::laws::read_once;
+use crate::ttlm::{Ttlm, map_width};
 use std::alloc::Global;
-use wl_elem::{Bytes, Element, Fault, Refusal, Why};
+use wl_elem::{
+    Bytes, Element, Fault, Memory, Why, first_cut, has_bit, short_if, u8_if, u16_if, u24_if,
+    width_if,
+};
 
-/// The presence octet, or 0 where the default mapping stands for it.
-fn presence_bits(default: bool, rest: &[u8]) -> Result<(u8, &[u8]), Stop>
-    ensures { Gives (λ x. (x.0, x.1.now)) result (presence_at default rest.now) }
+/// The bits of the TIDs that have a mapping: the presence octet, which is the first, or none where
+/// the default mapping stands for it.
+fn mapped(default: bool, octets: &[u8]) -> u8
+    ensures { result ≡ mapped default (slice_index octets.now 0) }
 {
-    if default {
-        return Ok((0, rest));
-    }
-    match rest {
-        [present, after @ ..] => Ok((*present, after)),
-        [] => Err(Stop::Short(0)),
+    match octets {
+        [first, ..] if !default => *first,
+        _ => 0,
     }
 }
 
-/// A field of one octet, where it is there.
-fn u8_if(present: bool, rest: &[u8]) -> Result<(Option<u16>, &[u8]), Stop>
-    ensures { Gives (λ x. (x.0, x.1.now)) result (field_at present 1 rest.now) }
+/// The widths of the fields behind the control octet.
+fn widths(control: u8, present: u8) -> [usize; 11]
+    ensures { result ≡ widths control present }
 {
-    if !present {
-        return Ok((None, rest));
-    }
-    match rest {
-        [low, after @ ..] => Ok((Some(u16::from(*low)), after)),
-        [] => Err(Stop::Short(0)),
-    }
+    let control = u16::from(control);
+    let present = u16::from(present);
+    let width = map_width(has_bit(control, 32));
+    [
+        width_if(!has_bit(control, 4), 1),
+        width_if(has_bit(control, 8), 2),
+        width_if(has_bit(control, 16), 3),
+        width_if(has_bit(present, 1), width),
+        width_if(has_bit(present, 2), width),
+        width_if(has_bit(present, 4), width),
+        width_if(has_bit(present, 8), width),
+        width_if(has_bit(present, 16), width),
+        width_if(has_bit(present, 32), width),
+        width_if(has_bit(present, 64), width),
+        width_if(has_bit(present, 128), width),
+    ]
 }
 
-/// A field of two octets, where it is there.
-fn u16_if(present: bool, rest: &[u8]) -> Result<(Option<u16>, &[u8]), Stop>
-    ensures { Gives (λ x. (x.0, x.1.now)) result (field_at present 2 rest.now) }
-{
-    if !present {
-        return Ok((None, rest));
-    }
-    match rest {
-        [low, high, after @ ..] => Ok((Some(u16::from_le_bytes([*low, *high])), after)),
-        _ => Err(Stop::Short(rest.len())),
-    }
-}
-
-/// A field of three octets, where it is there.
-fn u24_if(present: bool, rest: &[u8]) -> Result<(Option<u32>, &[u8]), Stop>
-    ensures { Gives (λ x. (x.0, x.1.now)) result (field_at present 3 rest.now) }
-{
-    if !present {
-        return Ok((None, rest));
-    }
-    match rest {
-        [low, middle, high, after @ ..] => {
-            Ok((Some(u32::from_le_bytes([*low, *middle, *high, 0])), after))
-        }
-        _ => Err(Stop::Short(rest.len())),
-    }
-}
-
-/// A mapping, where it is there.
-fn map_if(present: bool, narrow: bool, rest: &[u8]) -> Result<(Option<u16>, &[u8]), Stop>
-    ensures { Gives (λ x. (x.0, x.1.now)) result (field_at present (map_width narrow) rest.now) }
-{
-    if narrow {
-        u8_if(present, rest)
-    } else {
-        u16_if(present, rest)
-    }
-}
-
-/// The mappings of the TIDs whose bits are set, the lowest TID first.
-fn maps_of(present: u8, narrow: bool, rest: &[u8]) -> Result<([Option<u16>; 8], &[u8]), Stop>
-    ensures { Gives (λ x. (x.0, x.1.now)) result (maps_at 8 present (map_width narrow) rest.now) }
+/// The mappings of the TIDs whose bits are set, the lowest TID first. They are whole.
+fn maps_of(present: u8, width: usize, octets: &[u8]) -> ([Option<u16>; 8], &[u8])
+    requires one_or_two { (width ≡ 1) ⊎ (width ≡ 2) }
+    requires whole { total (map_widths 8 present width) ≤ length octets.now }
+    ensures { (result.0, result.1.now) ≡ maps_at 8 present width octets.now }
 {
     let mut maps = [None; 8];
     let mut bits = present;
-    let mut left = rest;
+    let mut left = octets;
     'maps: for map in &mut maps {
-        let (field, after) = map_if(bits % 2 == 1, narrow, left)?;
+        let (field, after) = short_if(bits % 2 == 1, width, left);
         *map = field;
         bits /= 2;
         left = after;
     }
-    Ok((maps, left))
+    (maps, left)
 }
 
-/// The value behind its control octet.
+/// The value behind its control octet. Its fields are whole.
 #[tactic(auto, unfolding(crate::specs::Reading::value_at))]
-fn value_of(alloc: Global, control: u8, rest: &[u8]) -> Result<Ttlm, Stop>
-    ensures { Gives (λ t. t) result (value_at control rest.now) }
+fn value_of(alloc: Global, control: u8, present: u8, octets: &[u8]) -> Result<Ttlm, Memory>
+    requires { total (widths control present) ≤ length octets.now }
+    ensures { IfOk result (λ t. t ≡ value_at control present octets.now) }
 {
-    let default = control / 4 % 2 == 1;
-    let narrow = control / 32 % 2 == 1;
-    let (present, rest) = presence_bits(default, rest)?;
-    let (switch, rest) = u16_if(control / 8 % 2 == 1, rest)?;
-    let (duration, rest) = u24_if(control / 16 % 2 == 1, rest)?;
-    let (maps, rest) = maps_of(present, narrow, rest)?;
-    let tail = Bytes::from_slice(alloc, rest)?;
+    let bits = u16::from(control);
+    let default = has_bit(bits, 4);
+    let narrow = has_bit(bits, 32);
+    let (_, octets) = u8_if(!default, octets);
+    let (switch, octets) = u16_if(has_bit(bits, 8), octets);
+    let (duration, octets) = u24_if(has_bit(bits, 16), octets);
+    let (maps, octets) = maps_of(present, map_width(narrow), octets);
+    let tail = Bytes::from_slice(alloc, octets)?;
     Ok(Ttlm {
         direction: control % 4,
         default,
@@ -119,46 +95,30 @@ fn value_of(alloc: Global, control: u8, rest: &[u8]) -> Result<Ttlm, Stop>
     })
 }
 
-/// The refusal at this place of the body.
-fn refused(place: usize, why: Why) -> Fault
-    requires { place ≤ body_limit }
-    ensures { result ≡ Refused (refusal_at place why) }
+/// Reads the octets behind the control octet.
+fn decode_fields(alloc: Global, control: u8, octets: &[u8]) -> Result<Ttlm, Fault>
+    requires { length octets.now < body_limit }
+    ensures { Answers result (ReadAs (control ∷ octets.now)) }
 {
-    Fault::Refused(Refusal {
-        element: None,
-        sub: None,
-        inner: None,
-        place: place as u32,
-        why,
-    })
-}
-
-/// The value that a body is read as.
-#[tactic(auto, unfolding(crate::specs::Reading::reading))]
-fn value_of_body(alloc: Global, body: &[u8]) -> Result<Ttlm, Fault>
-    requires { length body.now ≤ body_limit }
-    ensures { AnswersOnly result (reading body.now) }
-{
-    let [control, rest @ ..] = body else {
-        return Err(refused(0, Why::Truncated));
-    };
     if control % 4 == 3 {
-        return Err(refused(0, Why::ReservedDirection));
+        return Err(Fault::at(0, Why::ReservedDirection));
     }
-    match value_of(alloc, *control, rest) {
-        Ok(value) => Ok(value),
-        Err(Stop::Short(left)) => Err(refused(body.len() - left, Why::Truncated)),
-        Err(Stop::Memory) => Err(Fault::Memory),
+    let present = mapped(has_bit(u16::from(control), 4), octets);
+    if let Some(left) = first_cut(&widths(control, present), octets.len()) {
+        return Err(Fault::at(1 + octets.len() - left, Why::Truncated));
     }
+    Ok(value_of(alloc, control, present, octets)?)
 }
 
 /// Reads a body.
 fn decode_body(alloc: Global, body: &[u8]) -> Result<Ttlm, Fault>
     requires { length body.now ≤ body_limit }
-    ensures read { Answers result (ReadAs body.now) }
-    ensures only { (reading : Result Ttlm Refusal) → ReadAs body.now reading → AnswersOnly result reading }
+    ensures { Answers result (ReadAs body.now) }
 {
-    value_of_body(alloc, body)
+    match body {
+        [control, octets @ ..] => decode_fields(alloc, *control, octets),
+        [] => Err(Fault::at(0, Why::Truncated)),
+    }
 }
 
 /// Reads a TID-To-Link Mapping element, whose identity is 255/109.
@@ -168,9 +128,10 @@ fn decode_body(alloc: Global, body: &[u8]) -> Result<Ttlm, Fault>
 /// Truncated at the first field that isn't whole. The octets behind the known fields are the tail.
 /// `Memory` where there was none for the tail; it says nothing of the body.
 pub fn decode_ttlm(alloc: Global, element: &Element) -> Result<Ttlm, Fault>
-    requires { HasIdentity element.now 255 (Some 109) }
+    requires { HasExtension element.now tid_to_link_mapping }
     ensures read { Answers result (ReadAs element.now.body) }
     ensures only { (reading : Result Ttlm Refusal) → ReadAs element.now.body reading → AnswersOnly result reading }
 {
+    read_once();
     decode_body(alloc, element.body())
 }

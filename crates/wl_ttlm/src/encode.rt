@@ -1,14 +1,16 @@
 //! Writing the element's body.
 
-ghost use Rattle.std.specs.Prelude.{◌≡◌, ◌≤◌, ◌<◌, ◌^◌, ◌++◌, ◌∷◌, [], ℕ, List, Option, Some, IfOk, OnOk, length};
+ghost use Rattle.std.specs.Prelude.{◌≡◌, ◌⊎◌, ◌++◌, IfOk, OnOk};
 ghost use Rattle.std.specs.List.{AllByRecursion};
-ghost use Rattle.wl_elem.specs.Element.{HasIdentity};
-ghost use Rattle.wl_ttlm.specs.Fields.{field, Fits};
-ghost use Rattle.wl_ttlm.specs.Ttlm.{IsTtlm, TtlmOf, IsWritable, control, presence, presence_field, map_width, mappings, spelling};
+ghost use Rattle.wl_elem.specs.Fields.{Fits};
+ghost use Rattle.wl_elem.specs.Identity.{HasExtension, tid_to_link_mapping};
+ghost use Rattle.wl_ttlm.specs.Ttlm.{IsTtlm, TtlmOf, IsWritable, control, mappings, spelling};
 
-use crate::ttlm::Ttlm;
+use crate::ttlm::{Ttlm, map_width, presence_in};
 use std::alloc::Global;
-use wl_elem::{Bytes, Element, Memory};
+use wl_elem::{
+    Bytes, EXTENDED, Element, Memory, TID_TO_LINK_MAPPING, put_short, put_u8, put_u16, put_u24,
+};
 
 /// The control octet.
 fn control_of(value: &Ttlm) -> u8
@@ -23,68 +25,14 @@ fn control_of(value: &Ttlm) -> u8
         + 64 * value.spare
 }
 
-/// The presence octet.
-fn presence_of(maps: &[Option<u16>; 8]) -> u8
-    ensures { result ≡ presence maps.now }
-{
-    let mut bits = 0;
-    'maps: for tid in (0..8).rev() {
-        bits = 2 * bits + u8::from(maps[tid].is_some());
-    }
-    bits
-}
-
-/// The presence octet, unless the default mapping stands for it.
-fn put_presence(out: &mut Bytes, default: bool, maps: &[Option<u16>; 8]) -> Result<(), Memory>
-    ensures { OnOk result (out.new ≡ out.old ++ presence_field default maps.now) }
-{
-    if default {
-        return Ok(());
-    }
-    out.push(presence_of(maps))
-}
-
-/// A field of two octets, where it is there.
-fn put_u16(out: &mut Bytes, value: Option<u16>) -> Result<(), Memory>
-    ensures { OnOk result (out.new ≡ out.old ++ field 2 value) }
-{
-    match value {
-        Some(n) => out.extend(&n.to_le_bytes()),
-        None => Ok(()),
-    }
-}
-
-/// A field of three octets, where it is there.
-fn put_u24(out: &mut Bytes, value: Option<u32>) -> Result<(), Memory>
-    ensures { OnOk result (out.new ≡ out.old ++ field 3 value) }
-{
-    match value {
-        Some(n) => {
-            let [low, middle, high, _] = n.to_le_bytes();
-            out.extend(&[low, middle, high])
-        }
-        None => Ok(()),
-    }
-}
-
-/// A mapping, where it is there.
-fn put_map(out: &mut Bytes, narrow: bool, map: Option<u16>) -> Result<(), Memory>
-    requires { Fits (map_width narrow) map }
-    ensures { OnOk result (out.new ≡ out.old ++ field (map_width narrow) map) }
-{
-    match map {
-        Some(n) if narrow => out.push(n as u8),
-        other => put_u16(out, other),
-    }
-}
-
-/// The mappings, the lowest TID first.
-fn put_maps(out: &mut Bytes, narrow: bool, maps: &[Option<u16>; 8]) -> Result<(), Memory>
-    requires { AllByRecursion (Fits (map_width narrow)) maps.now }
-    ensures { OnOk result (out.new ≡ out.old ++ mappings narrow maps.now) }
+/// Adds the mappings, the lowest TID first. They have room.
+fn put_maps(out: &mut Bytes, width: usize, maps: &[Option<u16>; 8]) -> Result<(), Memory>
+    requires one_or_two { (width ≡ 1) ⊎ (width ≡ 2) }
+    requires fit { AllByRecursion (Fits width) maps.now }
+    ensures { OnOk result (out.new ≡ out.old ++ mappings width maps.now) }
 {
     'maps: for map in maps {
-        put_map(out, narrow, *map)?;
+        put_short(out, width, *map)?;
     }
     Ok(())
 }
@@ -96,10 +44,10 @@ fn body_of(alloc: Global, value: &Ttlm) -> Result<Bytes, Memory>
 {
     let mut out = Bytes::new(alloc);
     out.push(control_of(value))?;
-    put_presence(&mut out, value.default, &value.maps)?;
+    put_u8(&mut out, presence_in(value.default, &value.maps))?;
     put_u16(&mut out, value.switch)?;
     put_u24(&mut out, value.duration)?;
-    put_maps(&mut out, value.narrow, &value.maps)?;
+    put_maps(&mut out, map_width(value.narrow), &value.maps)?;
     out.extend(value.tail.as_slice())?;
     Ok(out)
 }
@@ -108,11 +56,11 @@ fn body_of(alloc: Global, value: &Ttlm) -> Result<Bytes, Memory>
 /// identity is 255/109. `Memory` where there was none for the body.
 pub fn encode_ttlm(alloc: Global, value: &Ttlm) -> Result<Element, Memory>
     requires { IsWritable value.now }
-    ensures identity { IfOk result (λ e. HasIdentity e 255 (Some 109)) }
+    ensures identity { IfOk result (λ e. HasExtension e tid_to_link_mapping) }
     ensures written { IfOk result (λ e. TtlmOf value.now e.body) }
 {
     let body = body_of(alloc, value)?;
-    match Element::new(255, Some(109), body) {
+    match Element::new(EXTENDED, Some(TID_TO_LINK_MAPPING), body) {
         Some(element) => Ok(element),
         None => unreachable!(),
     }

@@ -3,9 +3,7 @@
 
 mod decode;
 mod encode;
-mod fitting;
 mod laws;
-mod stop;
 mod ttlm;
 
 pub use decode::decode_ttlm;

@@ -7,3 +7,4 @@ pub mod Moving
 pub mod Placing
 pub mod Settling
 pub mod Booked
+pub mod Turning

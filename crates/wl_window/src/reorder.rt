@@ -45,13 +45,13 @@ impl<T> Model for Reorder<T> {
 
     ghost Value = { Store T };
 
-    ghost use Rattle.std.specs.Prelude.{◌≤◌};
+    ghost use Rattle.std.specs.Prelude.{◌≡◌};
     ghost use Rattle.std.specs.VecDeque.{deque_capacity};
     ghost use Rattle.wl_window.specs.Reordering.{IsStore};
 
     ghost view = { λ r. record { room = r.room; window = record { start = r.start; slots = r.slots.items } } };
 
-    ghost invariant = { λ r. IsStore (record { room = r.room; window = record { start = r.start; slots = r.slots.items } }) × (r.room ≤ deque_capacity r.slots) };
+    ghost invariant = { λ r. IsStore (record { room = r.room; window = record { start = r.start; slots = r.slots.items } }) × (deque_capacity r.slots ≡ r.room) };
 }
 
 /// Where a slot of this number is, or its place.
@@ -62,17 +62,18 @@ fn place_of<T>(slots: &VecDeque<Slot<T>>, number: u32) -> Result<usize, usize>
     slots.binary_search_by_key(&number, |slot| slot.number)
 }
 
-/// Puts a slot in at a place, where there is room.
-fn insert<T: Drop>(slots: &mut VecDeque<Slot<T>>, place: usize, slot: Slot<T>)
+/// Puts a slot in at a place, where there is room. It takes no memory: the slots before the place are
+/// turned behind the others, and then back, since what `VecDeque::insert` ensures leaves open whether
+/// it takes more.
+fn insert<T>(slots: &mut VecDeque<Slot<T>>, place: usize, slot: Slot<T>)
     requires within { place ≤ deque_len slots.old }
     requires room { deque_len slots.old < deque_capacity slots.old }
     ensures slots { slots.new.items ≡ inserted slots.old.items place slot }
-    ensures kept { deque_capacity slots.old ≤ deque_capacity slots.new }
+    ensures kept { deque_capacity slots.new ≡ deque_capacity slots.old }
 {
-    match slots.insert(place, slot) {
-        Ok(()) => (),
-        Err(_) => unreachable!(),
-    }
+    slots.rotate_left(place);
+    slots.push_front_reserved(slot);
+    slots.rotate_right(place);
 }
 
 /// Takes the first slot, unless its number is past the start.
@@ -109,8 +110,9 @@ impl<T> Reorder<T> {
     ghost use Rattle.wl_window.specs.Queue.{Queue};
     ghost use Rattle.wl_window.specs.Reordering.{IsStore, arrived, requested, stored_numbers, answer, window_after, queue_after, window_requested, queue_requested};
 
-    /// A window that starts at 0 with nothing stored, whose size may be up to `slots`. `Memory` where
-    /// there was none for so many.
+    /// A window that starts at 0 with nothing stored, whose size may be up to `slots`. It takes memory
+    /// for exactly so many items, and no call on it ever takes more. `Memory` where there was none for
+    /// so many.
     pub fn new(alloc: Global, slots: u16) -> Result<Reorder<T>, Memory>
         requires { (1 ≤ slots) × (slots ≤ 1024) }
         ensures { IfOk result (λ r. r ≡ record { room = slots; window = record { start = 0; slots = [] } }) }
@@ -198,6 +200,14 @@ impl<T> Reorder<T> {
         ensures sound { IsStore self.now }
     {
         self.start
+    }
+
+    /// For how many items it has memory: the greatest size, no more and no less.
+    pub fn capacity(&self) -> u16
+        ensures value { result ≡ self.now.room }
+        ensures sound { IsStore self.now }
+    {
+        self.slots.capacity() as u16
     }
 
     /// How many items are stored: fewer than the greatest size.

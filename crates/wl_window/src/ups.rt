@@ -1,6 +1,6 @@
 //! What goes up from a window.
 
-ghost use Rattle.std.specs.Prelude.{◌≡◌, ◌==◌, ◌+◌, ◌-◌, ◌<◌, ◌≤◌, ◌∷◌, [], min, length, drop, slice_get, OnOk};
+ghost use Rattle.std.specs.Prelude.{◌≡◌, ◌==◌, ◌+◌, ◌-◌, ◌<◌, ◌≤◌, ◌∷◌, [], min, max, length, drop, slice_get, OnOk, OnErr};
 ghost use Rattle.wl_window.specs.Queue.{received};
 
 use std::alloc::Global;
@@ -34,14 +34,16 @@ impl<T> Ups<T> {
         }
     }
 
-    /// Makes room for `n` more items. After `Memory` there may be less, but no less than before; what
-    /// waits stays as it was.
+    /// Makes room for `n` more items, and for no more than `n` where there was less. After `Memory`
+    /// nothing has changed.
     pub fn reserve(&mut self, n: u16) -> Result<(), Memory>
         ensures items { self.new.items ≡ self.old.items }
         ensures kept { self.old.spare ≤ self.new.spare }
         ensures ok { OnOk result (n ≤ self.new.spare) }
+        ensures exact { OnOk result (self.new.spare ≡ max self.old.spare n) }
+        ensures err { OnErr result (self.new ≡ self.old) }
     {
-        self.items.reserve(usize::from(n))?;
+        self.items.reserve_exact(usize::from(n))?;
         Ok(())
     }
 

@@ -2,4 +2,4 @@ use Rattle.wl_assoc.proofs.Total.{is_answering}
 use Rattle.wl_assoc.proofs.laws.states_or_refused.Goals as goal
 
 pub returns : goal.returns
-returns c = is_answering c.read_or_refused.ensures c.read_or_refused-2.ensures c.expanded_or_refused.ensures
+returns c = is_answering c.read_or_refused.ensures c.bodies_are_octets.ensures c.items_are_octets.ensures c.read_or_refused-2.ensures c.expanded_or_refused.ensures

@@ -6,10 +6,10 @@ use Rattle.wl_assoc.proofs.Lists.{found_is, none_is}
 use Rattle.wl_assoc.proofs.profiles.only_basic.Goals as goal
 
 pub returns-in_err-i-clause-none : goal.returns-in_err-i-clause-none
-returns-in_err-i-clause-none c _ counted = none_is c.args.list.now (sym (c.in_err-i.ensures ∙ ap (position is_basic) c.as_slice-elements.ensures)) counted
+returns-in_err-i-clause-none c _ counted = none_is c.args.list.now (sym (c.in_err-i.ensures ∙ ap (position is_basic) c.as_slice-elements.ensures.value)) counted
 
 pub returns-clause-some : goal.returns-clause-some
 returns-clause-some c =
     let e = c.index-elements-i.result in
-    found_is c.args.list.now c.in_ok-i.i e (sym (sym c.if-basics_in-ne1.false ∙ c.basics_in.ensures ∙ ap (count_by is_basic) c.as_slice-elements.ensures))
-    (sym (c.in_ok-i.ensures ∙ ap (position is_basic) c.as_slice-elements.ensures)) (c.index-elements-i.is ∙ ap (λ (xs : List ElementValue). get_or xs c.in_ok-i.i e) c.as_slice-elements.ensures)
+    found_is c.args.list.now c.in_ok-i.i e (sym (sym c.if-basics_in-ne1.false ∙ c.basics_in.ensures ∙ ap (count_by is_basic) c.as_slice-elements.ensures.value))
+    (sym (c.in_ok-i.ensures ∙ ap (position is_basic) c.as_slice-elements.ensures.value)) (c.index-elements-i.is ∙ ap (λ (xs : List ElementValue). get_or xs c.in_ok-i.i e) c.as_slice-elements.ensures.value)

@@ -8,7 +8,7 @@ use Rattle.wl_elem.proofs.decode.decode_elements.Goals as goal
 
 pub returns-in-Err-clause-only : goal.returns-in-Err-clause-only
 returns-in-Err-clause-only c reading read =
-    only_reading (Err c.fault_of.result) c.args.input.now (is_refused c.elements.list c.args.input.now c.elements.rest.now c.in-Err.stop c.fault_of.result c.elements.invariant c.in-Err.ensures.stopped c.fault_of.ensures) reading read
+    only_reading (Err c.fault.result) c.args.input.now (is_refused c.elements.list c.args.input.now c.elements.rest.now c.in-Err.stop c.fault.result c.elements.invariant c.in-Err.ensures.stopped c.fault.ensures) reading read
 
 pub element_of-requires-clause-room : goal.element_of-requires-clause-room
 element_of-requires-clause-room c =

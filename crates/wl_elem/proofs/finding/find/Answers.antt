@@ -23,7 +23,7 @@ one_more list id ext from i e none is isnt k low high (other, found, same) =
 
 pub loop-i-preserved : goal.loop-i-preserved
 loop-i-preserved c =
-    one_more c.args.list.now c.args.id c.args.ext c.args.from c.loop-i.i c.index-elements-i.result c.loop-i.invariant (c.index-elements-i.is ∙ ap (λ (xs : List ElementValue). get_or xs c.loop-i.i c.index-elements-i.result) c.as_slice-elements.ensures) (λ h. absurd (cc (c.has_identity.ensures.1 h, c.if-has_identity.false)))
+    one_more c.args.list.now c.args.id c.args.ext c.args.from c.loop-i.i c.index-elements-i.result c.loop-i.invariant (c.index-elements-i.is ∙ ap (λ (xs : List ElementValue). get_or xs c.loop-i.i c.index-elements-i.result) c.as_slice-elements.ensures.value) (λ h. absurd (cc (c.has_identity.ensures.1 h, c.if-has_identity.false)))
 
 pub returns : goal.returns
-returns c k low high = c.loop-i.invariant k low (omega (arith, high, c.loop-i-test.false, ap length c.as_slice-elements.ensures))
+returns c k low high = c.loop-i.invariant k low (omega (arith, high, c.loop-i-test.false, ap length c.as_slice-elements.ensures.value))

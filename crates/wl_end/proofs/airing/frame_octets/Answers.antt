@@ -21,7 +21,7 @@ encode_frame-requires g c =
     let kind : is_protected c.header_on-header.result.kind ≡ true =
     ap (λ h. is_protected h.kind) (c.header_on-header.ensures.value c.args.body.now) ∙ lane_protected c.args.start.now.end c.args.flight.now.lane in
     let payload = ap (λ (x : List ℕ). length x) (c.as_slice.ensures ∙ c.in_ok-text.ensures) in
-    let longer = c.sealer_is_sealing.ensures.longer c.new-under.result.key c.new-under.result.nonce c.new-under.result.aad c.args.body.now in
+    let longer = c.sealer_is_sealing.ensures.longer c.new-under.result.key c.new-under.result.nonce c.new-under.result.aad c.args.body.now (record { under = c.new-under.ensures.sound; octets = c.are_octets.ensures; limit = omega (arith, c.requires.short) }) in
     let short = c.requires.short in
     writable c.header_on-header.result p c.as_slice.result.now c.header_on-header.ensures.sound kind fits (omega (arith, payload, longer, short))
 

@@ -8,10 +8,10 @@ use Rattle.wl_mle.specs.Reading.{basic_with}
 use Rattle.wl_mle.proofs.Bodies.{stopped_at, basic_sound}
 use Rattle.wl_mle.proofs.decode.read_basic.Goals as goal
 
-pub returns-in-Err-cut_items : goal.returns-in-Err-cut_items
-returns-in-Err-cut_items c =
+pub returns-in-Err : goal.returns-in-Err
+returns-in-Err c =
     let control = c.args.control in
     let rest = c.args.rest.now in
-    let sound = subst (λ (n : ℕ). info_fault CommonShort CommonLong n rest ≡ None) c.basic_need.ensures c.in-Ok.ensures.sound in
+    let sound = subst (λ (n : ℕ). info_fault CommonShort CommonLong n rest ≡ None) c.need-least.ensures c.in_ok-area.ensures.sound in
     let none : basic_fault control rest ≡ None = basic_sound control rest sound (sym c.has_reserved_link.ensures ∙ c.if-has_reserved_link.false) in
-    stopped_at (basic_fault control rest) (basic_with control rest) rest c.in-Err-cut_items.stop c.fault_of.result none (subst (λ (x : List ℕ). IsStopped Subelements x c.in-Err-cut_items.stop) c.in-Ok.ensures.behind c.in-Err-cut_items.ensures.stopped) c.fault_of.ensures
+    stopped_at (basic_fault control rest) (basic_with control rest) rest c.in-Err.stop c.fault.result none (subst (λ (x : List ℕ). IsStopped Subelements x c.in-Err.stop) c.in_ok-area.ensures.behind c.in-Err.ensures.stopped) c.fault.ensures

@@ -1,7 +1,7 @@
 use Rattle.std.proofs.Common.{◌≡◌, true, eqb-true, nat_eq, length}
 use Rattle.std.proofs.lemmas.List.{nil_from_length}
 use Rattle.std.specs.String.{string_bytes}
-use Rattle.wl_shown.proofs.Judging.{one_more, ends}
+use Rattle.wl_shown.proofs.VerdictTexts.{one_more, ends}
 use Rattle.wl_shown.proofs.check.checked_lines.Goals as goal
 
 pub lines-preserved : goal.lines-preserved

@@ -1,6 +1,6 @@
 use Rattle.std.proofs.Common.{length}
 use Rattle.std.specs.String.{string_bytes}
-use Rattle.wl_shown.proofs.Judging.{Continues}
+use Rattle.wl_shown.proofs.VerdictTexts.{Continues}
 use Rattle.wl_shown.proofs.check.checked_lines.Given as goal
 
 abbrev pub invariant-lines : goal.invariant-lines

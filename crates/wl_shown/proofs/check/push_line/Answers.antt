@@ -1,5 +1,5 @@
 use Rattle.std.specs.String.{string_bytes}
-use Rattle.wl_shown.proofs.Judging.{verdict_added}
+use Rattle.wl_shown.proofs.VerdictTexts.{verdict_added}
 use Rattle.wl_shown.proofs.check.push_line.Goals as goal
 
 pub returns-in-Ok-push_str-clause-judged : goal.returns-in-Ok-push_str-clause-judged

@@ -3,4 +3,4 @@ use Rattle.wl_ttlm.specs.Ttlm.{mappings}
 use Rattle.wl_ttlm.proofs.encode.put_maps.Given as goal
 
 abbrev pub invariant-maps : goal.invariant-maps
-invariant-maps l = l.out ≡ l.fn.out ++ mappings l.narrow (take l.map-index l.maps)
+invariant-maps l = l.out ≡ l.fn.out ++ mappings l.width (take l.map-index l.maps)

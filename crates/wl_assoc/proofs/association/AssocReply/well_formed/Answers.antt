@@ -1,9 +1,12 @@
+use Rattle.std.proofs.Common.{◌≡◌, ◌+◌, ◌-◌, arith}
 use Rattle.std.proofs.lemmas.Bool.{leb-true, le-leb}
+use Rattle.wl_elem.specs.Element.{body_limit}
 use Rattle.wl_assoc.proofs.Bodies.{reply_has_body, reply_is_short}
 use Rattle.wl_assoc.proofs.association.AssocReply.well_formed.Goals as goal
 
 pub returns-clause-exact : goal.returns-clause-exact
-returns-clause-exact c = (
-  λ le. reply_has_body c.args.self.now c.encoded_len.result c.look_at_number.ensures c.look_at_number-2.ensures c.look_at_number-3.ensures (c.spelled.ensures c.args.self.now.elements c.look_at_elements.ensures) c.encoded_len.ensures (leb-true _ _ le),
-  λ of. le-leb _ _ (reply_is_short c.args.self.now c.encoded_len.result c.encoded_len.ensures of),
-)
+returns-clause-exact c =
+    let fixed : body_limit - (c.u16_len.result + c.u16_len-2.result + c.u16_len-3.result) ≡ body_limit - 6 = omega (arith, c.u16_len.ensures.exact, c.u16_len-2.ensures.exact, c.u16_len-3.ensures.exact) in (
+      λ le. reply_has_body c.args.self.now c.encoded_len.result c.u16_len.ensures.fits c.u16_len-2.ensures.fits c.u16_len-3.ensures.fits (c.spelled.ensures c.args.self.now.elements c.encoded_len.ensures.shapes) c.encoded_len.ensures.len (omega (arith, leb-true _ _ le, fixed)),
+      λ of. le-leb _ _ (omega (arith, reply_is_short c.args.self.now c.encoded_len.result c.encoded_len.ensures.len of, fixed)),
+    )

@@ -1,8 +1,9 @@
 use Rattle.std.proofs.Common.{arith, rules, true, false, ◌≡◌, ◌++◌, ◌-◌, List, ℕ, length, take, drop, sym, ap, ◌∙◌}
 use Rattle.std.specs.Prelude.{IsTrue}
-use Rattle.std.proofs.lemmas.List.{take-append-drop}
+use Rattle.std.proofs.lemmas.List.{length-take-le, take-append-drop}
 use Rattle.wl_frame.specs.declared.key.Key.{Key}
-use Rattle.wl_frame.specs.StandIn.{tag, stand_in, text_len, body_in, tag_in}
+use Rattle.wl_frame.specs.StandIn.{tag, stand_in, text_len, body_in}
+use Rattle.wl_frame.proofs.Sealed.{tag_in}
 use Rattle.wl_frame.proofs.stand_in.StandInSealer.unseal.Goals as goal
 
 pub returns-then-sealed-lt8-clause-closed : goal.returns-then-sealed-lt8-clause-closed
@@ -33,3 +34,9 @@ returns-clause-opened c =
     let yes : IsTrue true = search rules in
     let whole = is_text c.args.key.now c.args.nonce.now c.args.aad.now c.args.sealed.now c.split_at.result.0.now c.split_at.result.1.now (length c.args.sealed.now - 8) c.split_at.ensures.front c.split_at.ensures.back (c.if-not-is_tag.ensures.0 yes) in
     whole ∙ ap (stand_in c.args.key.now c.args.nonce.now c.args.aad.now) (sym c.in_ok-body.ensures)
+
+pub returns-clause-shorter : goal.returns-clause-shorter
+returns-clause-shorter c =
+    let n = length c.args.sealed.now - 8 in
+    let front = ap (λ (x : List ℕ). length x) (c.in_ok-body.ensures ∙ c.split_at.ensures.front) in
+    omega (arith, front, length-take-le n c.args.sealed.now (omega arith))

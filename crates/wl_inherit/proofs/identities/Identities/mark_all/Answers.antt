@@ -12,8 +12,8 @@ elements-preserved c =
     let list = c.args.list.now in
     let i = c.elements.element-index in
     let e = c.element-item.result in
-    let inside : i < length list = omega (arith, c.elements-test.true, ap length c.as_slice-element-items.ensures) in
-    let at : e ≡ get_or list i e = c.element-item.is ∙ ap (λ (xs : List ElementValue). get_or xs i e) c.as_slice-element-items.ensures in
+    let inside : i < length list = omega (arith, c.elements-test.true, ap length c.as_slice-element-items.ensures.value) in
+    let at : e ≡ get_or list i e = c.element-item.is ∙ ap (λ (xs : List ElementValue). get_or xs i e) c.as_slice-element-items.ensures.value in
     record {
       marks = all_more list i e c.args.self.now c.elements.self c.mark.new.self inside at c.elements.invariant.marks c.mark.ensures.marks;
       identities = All-more (λ (x : ElementValue). IsIdentity x.id x.ext) list i e inside c.elements.invariant.identities (subst (λ (x : ElementValue). IsIdentity x.id x.ext) at c.mark.ensures.identity);
@@ -21,5 +21,5 @@ elements-preserved c =
 
 pub returns-clause-identities : goal.returns-clause-identities
 returns-clause-identities c =
-    let whole : take c.elements.element-index c.args.list.now ≡ c.args.list.now = take_all c.elements.element-index c.args.list.now (omega (arith, c.elements-test.false, ap length c.as_slice-element-items.ensures)) in
+    let whole : take c.elements.element-index c.args.list.now ≡ c.args.list.now = take_all c.elements.element-index c.args.list.now (omega (arith, c.elements-test.false, ap length c.as_slice-element-items.ensures.value)) in
     recursion_from_All (λ (x : ElementValue). IsIdentity x.id x.ext) c.args.list.now (subst (All (λ (x : ElementValue). IsIdentity x.id x.ext)) whole c.elements.invariant.identities)

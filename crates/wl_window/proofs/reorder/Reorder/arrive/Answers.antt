@@ -1,4 +1,4 @@
-use Rattle.std.proofs.Common.{◌≡◌, ◌+◌, ◌≤◌, sym, ap, subst, ◌∙◌, arith}
+use Rattle.std.proofs.Common.{◌≡◌, ◌+◌, sym, ap, subst, ◌∙◌, arith}
 use Rattle.wl_window.specs.Reordering.{Window, Store, Old, Doubled, Stored, IsStore, advanced, arrived, answer, window_after, queue_after}
 use Rattle.wl_window.proofs.Moving.{wider}
 use Rattle.wl_window.proofs.Arriving.{old_is, doubled_is, Comes, came, Sound, came_sound, same_window}
@@ -40,7 +40,7 @@ returns-in_default-clause-up g c = sym (ap (queue_after c.args.up.now) (twice g 
 -- ---- the item is stored
 
 pub insert-requires-clause-room : goal.insert-requires-clause-room
-insert-requires-clause-room g c = let held = c.self.invariant.0.bounded in let room : c.self.inside.room ≤ c.self.inside.slots.cap = c.self.invariant.1 in let len = c.self.inside.slots.ok.0 in omega (arith, held, room, len)
+insert-requires-clause-room g c = let held = c.self.invariant.0.bounded in let room : c.self.inside.slots.cap ≡ c.self.inside.room = c.self.invariant.1 in let len = c.self.inside.slots.ok.0 in omega (arith, held, room, len)
 
 comes : (g : Over) (c : After-max-to g) → Comes (record { room = c.self.inside.room; window = record { start = c.self.inside.start; slots = c.self.inside.slots.items } }) c.args.number c.args.size c.args.item (c.self.inside.start + c.from.result) c.max-to.result c.insert.new.slots.items
 comes g c =
@@ -75,9 +75,9 @@ invariant_of-self g c =
     let moved = c.advance-self-inside.ensures.window in
     let kept = c.advance-self-inside.ensures.kept in
     let more = c.insert.ensures.kept in
-    let room : c.self.inside.room ≤ c.self.inside.slots.cap = c.self.invariant.1 in (
+    let room : c.self.inside.slots.cap ≡ c.self.inside.room = c.self.invariant.1 in (
       subst (λ (w : Window g.row.T.Denot). IsStore (record { room = c.self.inside.room; window = w })) (sym (same_window _ _ _ moved.0 moved.1)) is,
-      omega (arith, kept, more, room),
+      kept ∙ more ∙ room,
     )
 
 pub returns-clause-answer : goal.returns-clause-answer

@@ -1,4 +1,4 @@
-use Rattle.std.proofs.Common.{◌≡◌, ◌+◌, ◌-◌, ◌^◌, ◌≤◌, ℕ, Option, Some, None, sym, ap, subst, ◌∙◌, arith, inl, inr}
+use Rattle.std.proofs.Common.{◌≡◌, ◌+◌, ◌-◌, ◌^◌, ℕ, Option, Some, None, sym, ap, subst, ◌∙◌, arith, inl, inr}
 use Rattle.std.specs.Prelude.{is_some}
 use Rattle.wl_window.specs.Numbering.{distance}
 use Rattle.wl_window.specs.Reordering.{Window, Store, Moved, IsRising, IsStore, advanced, requested, window_requested, queue_requested}
@@ -39,8 +39,8 @@ invariant_of-self g c =
     let is = (sound g (goal.at.invariant_of-self g c).After-from).1 in
     let moved = c.advance-self-inside.ensures.window in
     let kept = c.advance-self-inside.ensures.kept in
-    let room : c.self.inside.room ≤ c.self.inside.slots.cap = c.self.invariant.1 in
-    (subst (λ (w : Window g.row.T.Denot). IsStore (record { room = c.self.inside.room; window = w })) (sym (same_window _ _ _ moved.0 moved.1)) is, omega (arith, kept, room))
+    let room : c.self.inside.slots.cap ≡ c.self.inside.room = c.self.invariant.1 in
+    (subst (λ (w : Window g.row.T.Denot). IsStore (record { room = c.self.inside.room; window = w })) (sym (same_window _ _ _ moved.0 moved.1)) is, kept ∙ room)
 
 pub returns-clause-answer : goal.returns-clause-answer
 returns-clause-answer g c = sym (ap (λ (o : Option (Moved g.row.T.Denot)). is_some o) (goes g (goal.at.returns-clause-answer g c).After-from))

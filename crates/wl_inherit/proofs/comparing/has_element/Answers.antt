@@ -1,6 +1,0 @@
-use Rattle.std.proofs.Common.{sym}
-use Rattle.wl_inherit.proofs.Pairing.{any_found}
-use Rattle.wl_inherit.proofs.comparing.has_element.Goals as goal
-
-pub returns : goal.returns
-returns c = any_found c.args.list.now c.args.id c.args.ext c.find.result c.is_some.result (sym c.is_some.ensures) c.find.ensures

@@ -1,27 +1,40 @@
--- How far one step of an end can go.
-use Rattle.std.proofs.Common.{◌≡◌, ℕ, zero, suc, ◌+◌, ◌-◌, ◌<◌, ◌≤◌, Bool, true, false, List, [], ◌∷◌, ◌++◌, length, get_or, set, Option, None, Some, refl, sym, ap, subst, arith, length-append}
-use Rattle.std.specs.Prelude.{if◌then◌else◌, slice_set, slice_index_or, ◌==◌, nat_lt}
-use Rattle.std.proofs.lemmas.Bool.{eqb-true}
+-- How far one step of two ends can go, and that what holds of each world holds after it.
+use Rattle.std.proofs.Common.{◌≡◌, ℕ, zero, suc, ◌+◌, ◌<◌, ◌≤◌, Bool, true, false, List, [], ◌∷◌, ◌++◌, length, get_or, set, Option, Some, None, refl, sym, ap, subst, ◌∙◌, arith, length-append}
+use Rattle.std.specs.Prelude.{nat_lt, ◌==◌, if◌then◌else◌}
+use Rattle.std.specs.List.{AllByRecursion}
+use Rattle.wl_elem.specs.declared.lane.EndId.{EndId}
+use Rattle.wl_elem.specs.declared.lane.EndId.TheVariants.{Ap, Sta}
 use Rattle.wl_elem.specs.declared.lane.Lane.{Lane}
-use Rattle.wl_elem.specs.Lanes.{lane_index, lane_count}
+use Rattle.wl_elem.specs.declared.lane.Lane.TheVariants.{Management}
+use Rattle.wl_elem.specs.Lanes.{lane_index, peer_of}
+use Rattle.wl_frame.specs.Sealing.{Sealing}
 use Rattle.wl_number.specs.declared.numbers.Numbers.{Numbers}
 use Rattle.wl_number.specs.Bookings.{booking_count}
 use Rattle.wl_number.specs.OrderRule.{list_of, entered_in}
 use Rattle.wl_replay.specs.Replay.{is_above, last_of}
-use Rattle.wl_window.specs.Originating.{Acked, with_booked}
+use Rattle.wl_window.specs.Originating.{Acked}
 use Rattle.wl_window.specs.Reordering.{Window, Arrived, Old, Doubled, Stored, arrived}
 use Rattle.wl_history.specs.declared.ack.Ack.{Ack}
 use Rattle.wl_history.specs.declared.arrival.Arrival.{Arrival}
+use Rattle.wl_history.specs.declared.command.Command.{Command}
+use Rattle.wl_history.specs.declared.command.Command.TheVariants as commands
 use Rattle.wl_history.specs.declared.hand.Hand.{Hand}
 use Rattle.wl_history.specs.declared.hand.Hand.TheVariants as hand
 use Rattle.wl_history.specs.declared.outcome.Outcome.{Outcome}
 use Rattle.wl_history.specs.declared.outcome.Outcome.TheVariants as outcomes
+use Rattle.wl_history.specs.declared.start.EndStart.{EndStart}
+use Rattle.wl_history.specs.declared.start.Start.{Start}
+use Rattle.wl_history.specs.Ends.{IsStart, start_of, receive_size}
 use Rattle.wl_history.specs.Hands.{hand_of}
-use Rattle.wl_history.specs.EndState.{LaneState, EndState, lane_at, no_lane, frames_on, with_lane, after_queue, after_reserve, after_book, after_put, put_down, with_frame, aired_at, after_hear, after_arrived, after_ack, after_acked, acked_by, let_up}
+use Rattle.wl_history.specs.Answers.{aired_octets, acks_made}
+use Rattle.wl_history.specs.EndState.{LaneState, EndState, lane_at, no_lane, no_lanes, started, frames_on, with_lane, with_frame, put_down, arrival_of, after_queue, after_reserve, after_book, after_put, after_arrived, after_heard, after_acked, after_taken, acked_by}
+use Rattle.wl_history.specs.AirState.{AirState, end_of, acks_of, with_end, with_acks, ack_named, begun, after}
 use Rattle.wl_end.specs.Parts.{frame_count}
-use Rattle.wl_air.specs.World.{IsNear}
+use Rattle.wl_history.specs.Legal.{step_limit}
+use Rattle.wl_air.specs.World.{IsNear, IsBounded, IsRoomy, IsWorld}
 use Rattle.wl_air.proofs.Windows.{ArrivedNear, arrived_near}
-use Rattle.wl_air.proofs.Standing.{one_place}
+
+-- ---- one end
 
 -- a lane after a step
 pub record LaneGrown (old new : LaneState) : Type 0 where
@@ -39,27 +52,18 @@ pub record Grown (s t : EndState) : Type 0 where
 lane_still : (x : LaneState) → LaneGrown x x
 lane_still x = record { queue = omega arith; window = omega arith; near = λ h. h }
 
-pub still_grown : (s : EndState) → Grown s s
+still_grown : (s : EndState) → Grown s s
 still_grown s = record { start_same = refl; lanes = λ l. lane_still (lane_at s l); booked = omega arith; aired = omega arith }
 
-abbrev at_lane : List LaneState → ℕ → LaneState
-at_lane ls l = slice_index_or ls l no_lane
+-- one lane changed
+one_lane : (lanes : List LaneState) (place l : ℕ) (new : LaneState) → LaneGrown (get_or lanes place no_lane) new → LaneGrown (get_or lanes l no_lane) (get_or (set lanes place new) l no_lane)
+one_lane [] place l new grown = lane_still no_lane
+one_lane (x ∷ xs) zero zero new grown = grown
+one_lane (x ∷ xs) zero (suc l) new grown = lane_still (get_or xs l no_lane)
+one_lane (x ∷ xs) (suc place) zero new grown = lane_still x
+one_lane (x ∷ xs) (suc place) (suc l) new grown = one_lane xs place l new grown
 
-one_by : (ls : List LaneState) (place l : ℕ) (new : LaneState) → place < length ls → LaneGrown (at_lane ls place) new → (b : Bool) → (place == l) ≡ b → LaneGrown (at_lane ls l) (at_lane (slice_set ls place new) l)
-one_by ls place l new lt grown true is =
-    subst (λ (x : LaneState). LaneGrown (at_lane ls l) x) (sym (one_place ls place l new no_lane lt true is)) (subst (λ (k : ℕ). LaneGrown (at_lane ls k) new) (eqb-true place l is) grown)
-one_by ls place l new lt grown false is =
-    subst (λ (x : LaneState). LaneGrown (at_lane ls l) x) (sym (one_place ls place l new no_lane lt false is)) (lane_still (at_lane ls l))
-
--- a lane whose queue and window stay
-kept_grown : (x y : LaneState) → y.queue ≡ x.queue → y.window ≡ x.window → LaneGrown x y
-kept_grown x y q v = record {
-  queue = omega (arith, ap (λ (b : List (List ℕ)). length b) q);
-  window = omega (arith, ap (λ (b : Window Arrival). b.start) v);
-  near = λ h. subst IsNear (sym v) h;
-}
-
--- one list more or one longer by one
+-- one list of some more or one longer by one
 booking_more : (lanes : List (List Numbers)) (place : ℕ) (new : List Numbers) → length new ≤ length (get_or lanes place []) + 1 → booking_count (set lanes place new) ≤ booking_count lanes + 1
 booking_more [] place new le = omega arith
 booking_more (list ∷ lanes) zero new le = omega (arith, le)
@@ -80,78 +84,159 @@ entered_more n (x ∷ xs) =
     let more : length (entered_in n (x ∷ xs)) ≤ length xs + 2 = entered_by (nat_lt x.pos n.pos) n x xs (entered_in n xs) (entered_more n xs) in
     omega (arith, more)
 
--- the lane that an answer names is one of the nine
-abbrev pub OfLane : Outcome → Type 0
-OfLane (outcomes.Booked lane n) = lane_index lane < lane_count
-OfLane (outcomes.Spent lane) = lane_index lane < lane_count
-OfLane (outcomes.Put lane n retry) = lane_index lane < lane_count
-OfLane other = Unit {0}
+size_by : (b : Bool) (window : ℕ) → 1 ≤ window → 1 ≤ (if b then 1 else window)
+size_by true window h = omega arith
+size_by false window h = h
 
-module _ (s : EndState) (nine : length s.lanes ≡ lane_count) where
-  one_grown : (place : ℕ) (new : LaneState) → place < lane_count → LaneGrown (lane_at s place) new → Grown s (with_lane place new s)
-  one_grown place new lt grown = record {
+module _ (s : EndState) where
+  -- a lane whose queue and window stay
+  same_lane : (place : ℕ) (new : LaneState) → new.queue ≡ (lane_at s place).queue → new.window ≡ (lane_at s place).window → (l : ℕ) → LaneGrown (lane_at s l) (lane_at (with_lane place new s) l)
+  same_lane place new q v l = one_lane s.lanes place l new (record {
+    queue = omega (arith, ap (λ (b : List (List ℕ)). length b) q);
+    window = omega (arith, ap (λ (b : Window Arrival). b.start) v);
+    near = λ h. subst IsNear (sym v) h;
+  })
+
+  queue_grown : (l : ℕ) (body : List ℕ) → Grown s (after_queue l body s)
+  queue_grown l body = record {
     start_same = refl;
-    lanes = λ l. one_by s.lanes place l new (omega (arith, lt, nine)) grown (place == l) refl;
+    lanes = λ k. one_lane s.lanes l k (record (lane_at s l) { queue = (lane_at s l).queue ++ body ∷ [] }) (record { queue = omega (arith, length-append (lane_at s l).queue (body ∷ [])); window = omega arith; near = λ h. h });
     booked = omega arith;
     aired = omega arith;
   }
 
-  pub queue_grown : (tid : ℕ) (body : List ℕ) → tid < 8 → Grown s (after_queue tid body s)
-  queue_grown tid body lt = one_grown tid (record (lane_at s tid) { queue = (lane_at s tid).queue ++ body ∷ [] }) (omega (arith, lt)) (record {
-    queue = omega (arith, length-append (lane_at s tid).queue (body ∷ []));
-    window = omega arith;
-    near = λ h. h;
-  })
+  reserve_grown : (thread : ℕ) (lane : Lane) (o : Outcome) → Grown s (after_reserve thread lane o s)
+  reserve_grown thread lane outcomes.Reserved = record { start_same = refl; lanes = same_lane (lane_index lane) _ refl refl; booked = omega arith; aired = omega arith }
+  reserve_grown thread lane other = still_grown s
 
-  pub reserve_grown : (thread : ℕ) (lane : Lane) (o : Outcome) → lane_index lane < lane_count → Grown s (after_reserve thread lane o s)
-  reserve_grown thread lane outcomes.Reserved lt =
-      let g = one_grown (lane_index lane) (record (lane_at s (lane_index lane)) { sending = record (lane_at s (lane_index lane)).sending { granted = (lane_at s (lane_index lane)).sending.granted + 1 } }) lt (kept_grown (lane_at s (lane_index lane)) _ refl refl) in
-      record { start_same = refl; lanes = g.lanes; booked = omega arith; aired = omega arith }
-  reserve_grown thread lane other lt = still_grown s
-
-  pub book_grown : (thread : ℕ) (o : Outcome) → OfLane o → Grown s (after_book thread o s)
-  book_grown thread (outcomes.Booked lane n) lt =
-      let g = one_grown (lane_index lane) (record (lane_at s (lane_index lane)) { sending = with_booked (lane_at s (lane_index lane)).sending n.pos }) lt (kept_grown (lane_at s (lane_index lane)) _ refl refl) in
-      record { start_same = refl; lanes = g.lanes; booked = booking_more s.booked (lane_index lane) (entered_in n (list_of s.booked lane)) (entered_more n (list_of s.booked lane)); aired = omega arith }
-  book_grown thread (outcomes.Spent lane) lt =
-      let g = one_grown (lane_index lane) (record (lane_at s (lane_index lane)) { sending = record (lane_at s (lane_index lane)).sending { granted = (lane_at s (lane_index lane)).sending.granted - 1 } }) lt (kept_grown (lane_at s (lane_index lane)) _ refl refl) in
-      record { start_same = refl; lanes = g.lanes; booked = omega arith; aired = omega arith }
-  book_grown thread other lt = still_grown s
+  book_grown : (thread : ℕ) (o : Outcome) → Grown s (after_book thread o s)
+  book_grown thread (outcomes.Booked lane n) =
+      record { start_same = refl; lanes = same_lane (lane_index lane) _ refl refl; booked = booking_more s.booked (lane_index lane) (entered_in n (list_of s.booked lane)) (entered_more n (list_of s.booked lane)); aired = omega arith }
+  book_grown thread (outcomes.Spent lane) = record { start_same = refl; lanes = same_lane (lane_index lane) _ refl refl; booked = omega arith; aired = omega arith }
+  book_grown thread other = still_grown s
 
   down_grown : (thread : ℕ) (held : Hand) (t : EndState) → Grown s t → Grown s (put_down thread held t)
   down_grown thread hand.Empty t g = g
   down_grown thread (hand.Reserve lane) t g = g
   down_grown thread (hand.Booking lane n) t g = record { start_same = g.start_same; lanes = g.lanes; booked = g.booked; aired = g.aired }
 
-  frame_grown : (link : ℕ) (octets : List ℕ) (lane : Lane) (n : Numbers) → lane_index lane < lane_count → Grown s (with_frame link octets lane n s)
-  frame_grown link octets lane n lt =
-      let g = one_grown (lane_index lane) (record (lane_at s (lane_index lane)) { aired = aired_at n.pos (lane_at s (lane_index lane)).aired }) lt (kept_grown (lane_at s (lane_index lane)) _ refl refl) in
-      record { start_same = refl; lanes = g.lanes; booked = omega arith; aired = frame_more s.frames link (frames_on s link ++ octets ∷ []) (omega (arith, length-append (frames_on s link) (octets ∷ []))) }
+  frame_grown : (link : ℕ) (octets : List ℕ) (lane : Lane) (n : Numbers) → Grown s (with_frame link octets lane n s)
+  frame_grown link octets lane n = record {
+    start_same = refl;
+    lanes = same_lane (lane_index lane) _ refl refl;
+    booked = omega arith;
+    aired = frame_more s.frames link (frames_on s link ++ octets ∷ []) (omega (arith, length-append (frames_on s link) (octets ∷ [])));
+  }
 
-  pub put_grown : (thread link : ℕ) (octets : List ℕ) (o : Outcome) → OfLane o → Grown s (after_put thread link octets o s)
-  put_grown thread link octets (outcomes.Put lane n retry) lt = down_grown thread (hand_of s.hands thread) (with_frame link octets lane n s) (frame_grown link octets lane n lt)
-  put_grown thread link octets other lt = down_grown thread (hand_of s.hands thread) s (still_grown s)
+  put_grown : (thread link : ℕ) (octets : List ℕ) (o : Outcome) → Grown s (after_put thread link octets o s)
+  put_grown thread link octets (outcomes.Put lane n retry) = down_grown thread (hand_of s.hands thread) (with_frame link octets lane n s) (frame_grown link octets lane n)
+  put_grown thread link octets other = down_grown thread (hand_of s.hands thread) s (still_grown s)
 
-  arrived_grown : (lane : Lane) (come : Arrived Arrival) → lane_index lane < lane_count → ArrivedNear (lane_at s (lane_index lane)).window come → Grown s (after_arrived lane come s)
-  arrived_grown lane Old lt near = still_grown s
-  arrived_grown lane Doubled lt near = still_grown s
-  arrived_grown lane (Stored moved) lt near =
-      let g : Grown s (with_lane (lane_index lane) (record (lane_at s (lane_index lane)) { window = moved.window; released = (lane_at s (lane_index lane)).released ++ (let_up (last_of s.last lane) moved.up).positions }) s) =
-      one_grown (lane_index lane) _ lt (record { queue = omega arith; window = near.most; near = λ h. near.near }) in
-      record { start_same = refl; lanes = g.lanes; booked = omega arith; aired = omega arith }
+  arrived_grown : (lane : Lane) (come : Arrived Arrival) → ArrivedNear (lane_at s (lane_index lane)).window come → Grown s (after_arrived lane come s)
+  arrived_grown lane Old near = still_grown s
+  arrived_grown lane Doubled near = still_grown s
+  arrived_grown lane (Stored moved) near = record {
+    start_same = refl;
+    lanes = λ l. one_lane s.lanes (lane_index lane) l _ (record { queue = omega arith; window = near.most; near = λ h. near.near });
+    booked = omega arith;
+    aired = omega arith;
+  }
 
   hear_by : (b : Bool) (t : EndState) → Grown s t → Grown s (if b then t else s)
   hear_by true t g = g
   hear_by false t g = still_grown s
 
-  pub hear_grown : (lane : Lane) (number size : ℕ) (a : Arrival) → lane_index lane < lane_count → 1 ≤ size → IsNear (lane_at s (lane_index lane)).window → Grown s (after_hear lane number size a s)
-  hear_grown lane number size a lt some near =
-      hear_by (is_above (last_of s.last lane) a.numbers.key a.numbers.pn) _
-      (arrived_grown lane (arrived (lane_at s (lane_index lane)).window number size a) lt (arrived_near (lane_at s (lane_index lane)).window number size a some near))
+  heard_grown : (p : EndState) (o : Outcome) → 1 ≤ s.start.window → ((l : ℕ) → IsNear (lane_at s l).window) → Grown s (after_heard p o s)
+  heard_grown p (outcomes.Stored lane number n up) some near =
+      let size = receive_size s.start (lane_index lane) in
+      hear_by (is_above (last_of s.last lane) n.key n.pn) _
+      (arrived_grown lane (arrived (lane_at s (lane_index lane)).window number size (arrival_of p lane n))
+      (arrived_near (lane_at s (lane_index lane)).window number size (arrival_of p lane n) (size_by (lane_index lane == lane_index Management) s.start.window some) (near (lane_index lane))))
+  heard_grown p other some near = still_grown s
 
-  acked_grown : (ack : Ack) (a : Option Acked) → lane_index ack.lane < lane_count → Grown s (after_acked ack a s)
-  acked_grown ack None lt = still_grown s
-  acked_grown ack (Some acked) lt = one_grown (lane_index ack.lane) (record (lane_at s (lane_index ack.lane)) { sending = acked.sending }) lt (kept_grown (lane_at s (lane_index ack.lane)) _ refl refl)
+  acked_grown : (ack : Ack) (a : Option Acked) → Grown s (after_acked ack a s)
+  acked_grown ack None = still_grown s
+  acked_grown ack (Some acked) = record { start_same = refl; lanes = same_lane (lane_index ack.lane) _ refl refl; booked = omega arith; aired = omega arith }
 
-  pub ack_grown : (ack : Ack) → lane_index ack.lane < lane_count → Grown s (after_ack ack s)
-  ack_grown ack lt = acked_grown ack (acked_by ack s) lt
+  taken_grown : (named : Option Ack) → Grown s (after_taken named s)
+  taken_grown None = still_grown s
+  taken_grown (Some ack) = acked_grown ack (acked_by ack s)
+
+-- ---- both
+
+module _ (a : AirState) where
+  at_end : (end : EndId) (s : EndState) → Grown (end_of a end) s → (e : EndId) → Grown (end_of a e) (end_of (with_end end s a) e)
+  at_end Ap s g Ap = g
+  at_end Ap s g Sta = still_grown a.sta
+  at_end Sta s g Ap = still_grown a.ap
+  at_end Sta s g Sta = g
+
+  at_acks : (end : EndId) (acks : List Ack) (e : EndId) → Grown (end_of a e) (end_of (with_acks end acks a) e)
+  at_acks Ap acks Ap = still_grown a.ap
+  at_acks Ap acks Sta = still_grown a.sta
+  at_acks Sta acks Ap = still_grown a.ap
+  at_acks Sta acks Sta = still_grown a.sta
+
+  after_grown : (text : Sealing) (thread : ℕ) (command : Command) (o : Outcome) → ((e : EndId) → 1 ≤ (end_of a e).start.window) → ((e : EndId) (l : ℕ) → IsNear (lane_at (end_of a e) l).window)
+      → (e : EndId) → Grown (end_of a e) (end_of (after text thread command o a) e)
+  after_grown text thread (commands.Queue end tid body) o some near = at_end end _ (queue_grown (end_of a end) tid body)
+  after_grown text thread (commands.Reserve end lane) o some near = at_end end _ (reserve_grown (end_of a end) thread lane o)
+  after_grown text thread (commands.Book end) o some near = at_end end _ (book_grown (end_of a end) thread o)
+  after_grown text thread (commands.Put end link) o some near = at_end end _ (put_grown (end_of a end) thread link (aired_octets text link (hand_of (end_of a end).hands thread) (end_of a end)) o)
+  after_grown text thread (commands.Deliver end link nth) o some near = at_end end _ (heard_grown (end_of a end) (end_of a (peer_of end)) o (some end) (near end))
+  after_grown text thread (commands.AckOut end lane) o some near = at_acks end (acks_made lane o (acks_of a end))
+  after_grown text thread (commands.AckIn end nth) o some near = at_end end _ (taken_grown (end_of a end) (ack_named a end nth))
+
+-- ---- a world
+
+bounded_after : (steps : ℕ) (s t : EndState) → Grown s t → IsBounded steps s → IsBounded (suc steps) t
+bounded_after steps s t g b = record {
+  queues = λ l. omega (arith, b.queues l, (g.lanes l).queue);
+  windows = λ l. omega (arith, b.windows l, (g.lanes l).window);
+  near = λ l. (g.lanes l).near (b.near l);
+  booked = omega (arith, b.booked, g.booked);
+  aired = omega (arith, b.aired, g.aired);
+}
+
+pub roomy : (steps : ℕ) (s : EndState) → steps < step_limit → IsBounded steps s → IsRoomy s
+roomy steps s lt b = record {
+  queues = λ l. omega (arith, lt, b.queues l);
+  windows = λ l. omega (arith, lt, b.windows l);
+}
+
+pub world_kept : (text : Sealing) (start : Start) (a : AirState) (steps : ℕ) (thread : ℕ) (command : Command) (o : Outcome) → steps < step_limit → IsWorld start a steps → IsWorld start (after text thread command o a) (suc steps)
+world_kept text start a steps thread command o lt w =
+    let grown = after_grown a text thread command o (λ e. subst (λ (s : EndStart). 1 ≤ s.window) (sym (w.starts e)) (w.is_start.some_window e)) (λ e l. (w.bounded e).near l) in
+    record {
+      is_start = w.is_start;
+      starts = λ e. (grown e).start_same ∙ w.starts e;
+      bounded = λ e. bounded_after steps (end_of a e) (end_of (after text thread command o a) e) (grown e) (w.bounded e);
+      few = omega (arith, lt);
+    }
+
+-- ---- the start
+
+nothing_at : (l : ℕ) → get_or no_lanes l no_lane ≡ no_lane
+nothing_at l = all_same no_lanes l (refl, (refl, (refl, (refl, (refl, (refl, (refl, (refl, (refl, tt)))))))))
+  where
+    all_same : (xs : List LaneState) (l : ℕ) → AllByRecursion (λ x. x ≡ no_lane) xs → get_or xs l no_lane ≡ no_lane
+    all_same [] l h = refl
+    all_same (x ∷ xs) zero h = h.0
+    all_same (x ∷ xs) (suc l) h = all_same xs l h.1
+
+end_bounded : (start : EndStart) → IsBounded 0 (started start)
+end_bounded start = record {
+  queues = λ l. subst (λ (lane : LaneState). length lane.queue ≤ 0) (sym (nothing_at l)) (omega arith);
+  windows = λ l. subst (λ (lane : LaneState). lane.window.start ≤ 0) (sym (nothing_at l)) (omega arith);
+  near = λ l. subst (λ (lane : LaneState). IsNear lane.window) (sym (nothing_at l)) tt;
+  booked = omega arith;
+  aired = omega arith;
+}
+
+pub begun_world : (start : Start) → IsStart start → IsWorld start (begun start) 0
+begun_world start is = record {
+  is_start = is;
+  starts = λ e. elim e as (λ (x : EndId). (end_of (begun start) x).start ≡ start_of start x) [ Ap ↦ refl | Sta ↦ refl ];
+  bounded = λ e. elim e as (λ (x : EndId). IsBounded 0 (end_of (begun start) x)) [ Ap ↦ end_bounded start.ap | Sta ↦ end_bounded start.sta ];
+  few = omega arith;
+}

@@ -16,12 +16,13 @@ use Rattle.wl_history.specs.declared.script.Plain.{Plain}
 use Rattle.wl_history.specs.declared.script.Plain.TheVariants.{Do, Send}
 use Rattle.wl_history.specs.declared.start.Start.{Start}
 use Rattle.wl_history.specs.declared.step.Step.{Step}
-use Rattle.wl_history.specs.Legal.{Legal, IsStep}
+use Rattle.wl_history.specs.AirState.{state_of}
+use Rattle.wl_history.specs.Legal.{Legal, IsStep, step_limit}
 use Rattle.wl_history.specs.Runs.{step_of, Did, PutThen, BookThen, PlainThen, Plays, Stops}
 use Rattle.wl_air.specs.declared.fault.StepFault.{StepFault}
 use Rattle.wl_air.specs.declared.fault.StepFault.TheVariants as faults
 use Rattle.wl_air.specs.Playing.{PlainFits, ItemFits, is_reserved, is_booked, HasBooked, Reaches, IsWorldFault, PlainFault, ScriptFault}
-use Rattle.wl_air.specs.World.{WorldState, Stands, step_limit}
+use Rattle.wl_air.specs.World.{WorldState, Stands}
 
 -- a world after a step that was made
 pub record Next (text : Sealing) (w w' : WorldState) (command : Command) (o : Outcome) : Type 0 where
@@ -30,7 +31,7 @@ pub record Next (text : Sealing) (w w' : WorldState) (command : Command) (o : Ou
   pub goes_on : Stands text w → Stands text w'
 
 module _ (text : Sealing) where
-  is_step : (w w' : WorldState) (command : Command) (o : Outcome) → Next text w w' command o → Stands text w → IsStep text w.start w.steps (step_of 0 command o)
+  is_step : (w w' : WorldState) (command : Command) (o : Outcome) → Next text w w' command o → Stands text w → IsStep text w.start (state_of text w.start w.steps) (step_of 0 command o)
   is_step w w' command o n h =
       let legal : Legal text w.start (step_of 0 command o ∷ w.steps) = subst (λ (x : List Step). Legal text w.start x) n.steps_are (subst (λ (x : Start). Legal text x w'.steps) n.start_is (n.goes_on h).legal) in
       legal.1

@@ -1,58 +1,68 @@
 -- A step of a world: what was done, and what the journal has of it.
-use Rattle.std.proofs.Common.{◌≡◌, ℕ, ◌<◌, List, ◌∷◌, length, Option, Result, Ok, Err, refl, sym, ap, subst, ◌∙◌}
-use Rattle.std.specs.Prelude.{IfOk}
-use Rattle.std.specs.List.{Contains}
+use Rattle.std.proofs.Common.{◌≡◌, ℕ, suc, ◌<◌, ◌^◌, List, [], ◌∷◌, length, refl, sym, ap, subst, ◌∙◌}
 use Rattle.wl_elem.specs.declared.lane.EndId.{EndId}
 use Rattle.wl_elem.specs.declared.lane.EndId.TheVariants.{Ap, Sta}
 use Rattle.wl_elem.specs.Lanes.{peer_of}
-use Rattle.wl_frame.specs.Sealing.{Sealing, IsSealing}
-use Rattle.wl_number.specs.declared.numbers.Numbers.{Numbers}
-use Rattle.wl_number.specs.NumberObject.{InRange}
-use Rattle.wl_number.specs.OrderRule.{list_at}
+use Rattle.wl_frame.specs.Sealing.{Sealing}
 use Rattle.wl_history.specs.declared.command.Command.{Command}
 use Rattle.wl_history.specs.declared.command.Command.TheVariants as commands
 use Rattle.wl_history.specs.declared.opened.Opened.{Opened}
 use Rattle.wl_history.specs.declared.outcome.Outcome.{Outcome}
+use Rattle.wl_history.specs.declared.start.EndStart.{EndStart}
 use Rattle.wl_history.specs.declared.start.Start.{Start}
 use Rattle.wl_history.specs.declared.step.Step.{Step}
-use Rattle.wl_history.specs.Legal.{Fits, IsForged}
+use Rattle.wl_history.specs.AirState.{AirState, end_of, begun, after, state_of}
+use Rattle.wl_history.specs.Ends.{IsStart, start_of, mld_of}
+use Rattle.wl_history.specs.Legal.{Fits, InRanges, IsAnswer, Forges, step_limit}
 use Rattle.wl_history.specs.Runs.{step_of}
-use Rattle.wl_history.specs.Words.{nth_of}
-use Rattle.wl_history.specs.EndState.{EndState, IsEnd, frames_on}
 use Rattle.wl_air.specs.declared.fault.StepFault.{StepFault}
 use Rattle.wl_air.specs.declared.fault.StepFault.TheVariants as faults
-use Rattle.wl_air.specs.Air.{AirState, end_of, with_end}
-use Rattle.wl_air.specs.Acting.{Acts, BodyFits, Forges, HeardIf, IsStepFault, OnLinks, octets_named}
+use Rattle.wl_air.specs.Acting.{BodyFits, IsStepFault}
+use Rattle.wl_air.specs.Air.{Joined}
 use Rattle.wl_air.specs.Playing.{IsWorldFault}
-use Rattle.wl_air.specs.World.{world_of, IsWorld, IsRoomy, IsAir, AreBookedShort, Stands, step_limit}
-use Rattle.wl_air.proofs.Kept.{is_air, booked_short, roomy, world_kept}
+use Rattle.wl_air.specs.World.{IsWorld, IsRoomy, Stands, world_of}
+use Rattle.wl_air.proofs.Bounds.{roomy, world_kept}
 
--- ---- a frame that is delivered
+-- ---- what the ends of a world know of each other
 
-pub heard_at_ap : {T : Type 0} (first : T → Outcome) (text : Sealing) (a : AirState) (end : EndId) (link : ℕ) (nth : Option ℕ) (octets : Option (List ℕ)) (s' : EndState) (r : Result T StepFault)
-    → end ≡ Ap → octets ≡ nth_of nth (frames_on a.sta link) → IfOk r (λ o. HeardIf text a.ap a.sta link octets (first o) s')
-    → IfOk r (λ o. (x : EndState) × HeardIf text (end_of a end) (end_of a (peer_of end)) link (octets_named a end link nth) (first o) x × (with_end Ap s' a ≡ with_end end x a))
-heard_at_ap first text a Ap link nth octets s' (Ok o) is there heard = (s', subst (λ (x : Option (List ℕ)). HeardIf text a.ap a.sta link x (first o) s') there heard, refl)
-heard_at_ap first text a Sta link nth octets s' (Ok o) is there heard = absurd (cc is)
-heard_at_ap first text a end link nth octets s' (Err e) is there heard = tt
+starts_joined : (start : Start) → IsStart start → (e : EndId) (s p : EndStart) → s ≡ start_of start e → p ≡ start_of start (peer_of e) → (p.end ≡ peer_of s.end) × ((p.ap ≡ s.ap) × ((p.sta ≡ s.sta) × ((p.key ≡ s.key) × (length (mld_of p p.end) ≡ 6))))
+starts_joined start is Ap s p own peer = (
+  ap (λ (x : EndStart). x.end) peer ∙ is.sta_end ∙ sym (ap (λ (x : EndStart). peer_of x.end) own ∙ ap peer_of is.ap_end),
+  (
+    ap (λ (x : EndStart). x.ap) peer ∙ is.ap_same ∙ sym (ap (λ (x : EndStart). x.ap) own),
+    (
+      ap (λ (x : EndStart). x.sta) peer ∙ is.sta_same ∙ sym (ap (λ (x : EndStart). x.sta) own),
+      (
+        ap (λ (x : EndStart). x.key) peer ∙ is.key_same ∙ sym (ap (λ (x : EndStart). x.key) own),
+        ap (λ (x : EndStart). length (mld_of x x.end)) peer ∙ ap (λ (e : EndId). length (mld_of start.sta e)) is.sta_end ∙ ap (λ (m : List ℕ). length m) is.sta_same ∙ is.sta_six,
+      ),
+    ),
+  ),
+)
+starts_joined start is Sta s p own peer = (
+  ap (λ (x : EndStart). x.end) peer ∙ is.ap_end ∙ sym (ap (λ (x : EndStart). peer_of x.end) own ∙ ap peer_of is.sta_end),
+  (
+    ap (λ (x : EndStart). x.ap) peer ∙ sym (ap (λ (x : EndStart). x.ap) own ∙ is.ap_same),
+    (
+      ap (λ (x : EndStart). x.sta) peer ∙ sym (ap (λ (x : EndStart). x.sta) own ∙ is.sta_same),
+      (
+        ap (λ (x : EndStart). x.key) peer ∙ sym (ap (λ (x : EndStart). x.key) own ∙ is.key_same),
+        ap (λ (x : EndStart). length (mld_of x x.end)) peer ∙ ap (λ (e : EndId). length (mld_of start.ap e)) is.ap_end ∙ is.ap_six,
+      ),
+    ),
+  ),
+)
 
-pub heard_at_sta : {T : Type 0} (first : T → Outcome) (text : Sealing) (a : AirState) (end : EndId) (link : ℕ) (nth : Option ℕ) (octets : Option (List ℕ)) (s' : EndState) (r : Result T StepFault)
-    → end ≡ Sta → octets ≡ nth_of nth (frames_on a.ap link) → IfOk r (λ o. HeardIf text a.sta a.ap link octets (first o) s')
-    → IfOk r (λ o. (x : EndState) × HeardIf text (end_of a end) (end_of a (peer_of end)) link (octets_named a end link nth) (first o) x × (with_end Sta s' a ≡ with_end end x a))
-heard_at_sta first text a Sta link nth octets s' (Ok o) is there heard = (s', subst (λ (x : Option (List ℕ)). HeardIf text a.sta a.ap link x (first o) s') there heard, refl)
-heard_at_sta first text a Ap link nth octets s' (Ok o) is there heard = absurd (cc is)
-heard_at_sta first text a end link nth octets s' (Err e) is there heard = tt
+pub joined : (start : Start) (a : AirState) (steps : ℕ) → IsWorld start a steps → Joined a
+joined start a steps w e =
+    let (peer, (ap_same, (sta_same, (key_same, six)))) = starts_joined start w.is_start e (end_of a e).start (end_of a (peer_of e)).start (w.starts e) (w.starts (peer_of e)) in
+    record { peer = peer; ap_same = ap_same; sta_same = sta_same; key_same = key_same; six = six }
 
 -- ---- a step
 
 pub body_fits : (start : Start) (command : Command) → Fits start command → BodyFits command
 body_fits start (commands.Queue end tid body) fits = (fits.1, fits.2)
-body_fits start (commands.Reserve end lane) fits = tt
-body_fits start (commands.Book end) fits = tt
-body_fits start (commands.Put end link) fits = tt
-body_fits start (commands.Deliver end link nth) fits = tt
-body_fits start (commands.AckOut end lane) fits = tt
-body_fits start (commands.AckIn end nth) fits = tt
+body_fits start other fits = tt
 
 -- the command of the latest step is the one that was noted
 pub noted : (thread : ℕ) (command seen : Command) (o : Outcome) (before pushed : List Step) → pushed ≡ step_of thread command o ∷ before → ((s : Step) (b : List Step) → pushed ≡ s ∷ b → seen ≡ s.command) → seen ≡ command
@@ -64,32 +74,43 @@ pub settled : (thread : ℕ) (command : Command) (placeholder answer again : Out
 settled thread command placeholder answer again before pushed after is same told =
     told (step_of thread command placeholder) before is ∙ ap (λ (o : Outcome). step_of thread command o ∷ before) same
 
-abbrev pub StepsLaw : Type 0
-StepsLaw = (text : Sealing) (start : Start) (before : List Step) (a after : AirState) (thread : ℕ) (command : Command) (o : Outcome)
-    → IsSealing text → IsAir start a → AreBookedShort before → Stands text (world_of start a before) → Fits start command → OnLinks command
-    → Acts text thread command a o after → Stands text (world_of start after (step_of thread command o ∷ before))
+-- what two ends did by a command
+pub record Acted (text : Sealing) (thread : ℕ) (command : Command) (a : AirState) (o : Outcome) (a' : AirState) : Type 0 where
+  pub answer : Joined a → IsAnswer text thread command a o
+  pub unforged : Joined a → (opened : Opened) → Forges text command a opened → ⊥
+  pub then_is : a' ≡ after text thread command o a
 
-abbrev pub ForgeriesLaw : Type 0
-ForgeriesLaw = (text : Sealing) (start : Start) (before : List Step) (a : AirState) (command : Command) (opened : Opened)
-    → IsSealing text → IsAir start a → AreBookedShort before → Stands text (world_of start a before) → Fits start command → OnLinks command
-    → Forges text command a opened → IsForged text start before command opened
+pub kept : (text : Sealing) (start : Start) (a a' : AirState) (before later : List Step) (thread : ℕ) (command : Command) (o : Outcome) → length before < step_limit → later ≡ step_of thread command o ∷ before → Acted text thread command a o a'
+    → IsWorld start a (length before) → IsWorld start a' (length later)
+kept text start a a' before later thread command o room is acted w =
+    subst (λ (x : List Step). IsWorld start a' (length x)) (sym is) (subst (λ (x : AirState). IsWorld start x (suc (length before))) (sym acted.then_is) (world_kept text start a (length before) thread command o room w))
 
-module _ (text : Sealing) (sealing : IsSealing text) (start : Start) (a : AirState) (before : List Step) (w : IsWorld start a (length before)) (sound : (e : EndId) → IsEnd (end_of a e))
-    (ranges : (e : EndId) (place : ℕ) (n : Numbers) → Contains (list_at (end_of a e).booked place) n → InRange n) (thread : ℕ) (command : Command) (room : length before < step_limit) (fits : Fits start command) (links : OnLinks command) where
-  pub kept : (o : Outcome) (a' : AirState) (after : List Step) → after ≡ step_of thread command o ∷ before → Acts text thread command a o a' → IsWorld start a' (length after)
-  kept o a' after is acts = subst (λ (x : List Step). IsWorld start a' (length x)) (sym is) (world_kept start a (length before) w sound text thread command o a' room fits acts)
+pub stands : (text : Sealing) (start : Start) (a a' : AirState) (before later : List Step) (thread : ℕ) (command : Command) (o : Outcome) → length before < step_limit → thread < 2 ^ 16 → Fits start command → InRanges command → later ≡ step_of thread command o ∷ before
+    → Acted text thread command a o a' → Joined a → Stands text (world_of start a before) → Stands text (world_of start a' later)
+unfolding state_of
+stands text start a a' before later thread command o room short fits ranges is acted join h =
+    subst (λ (x : List Step). Stands text (world_of start a' x)) (sym is) (record {
+      legal = (
+        h.legal,
+        record {
+          thread = short;
+          fits = fits;
+          ranges = ranges;
+          answer = subst (λ (x : AirState). IsAnswer text thread command x o) h.air_is (acted.answer join);
+          unforged = λ opened forged. acted.unforged join opened (subst (λ (x : AirState). Forges text command x opened) (sym h.air_is) forged);
+        },
+        room,
+      );
+      air_is = acted.then_is ∙ ap (λ (x : AirState). after text thread command o x) h.air_is;
+    })
 
-  pub stands : StepsLaw → (o : Outcome) (a' : AirState) (after : List Step) → after ≡ step_of thread command o ∷ before → Acts text thread command a o a' → Stands text (world_of start a before) → Stands text (world_of start a' after)
-  stands law o a' after is acts h =
-      subst (λ (x : List Step). Stands text (world_of start a' x)) (sym is)
-      (law text start before a a' thread command o sealing (is_air start a (length before) w sound) (booked_short start a (length before) w sound text before h ranges) h fits links acts)
+pub fault : (text : Sealing) (start : Start) (a : AirState) (before : List Step) (command : Command) (f : StepFault) → IsStepFault text command a f → IsWorldFault text (world_of start a before) command f
+fault text start a before command faults.Memory forges = tt
+fault text start a before command (faults.Forged opened) forges = λ h. subst (λ (x : AirState). Forges text command x opened) h.air_is forges
 
-  pub unforged : StepsLaw → (o : Outcome) (a' : AirState) → Acts text thread command a o a' → Stands text (world_of start a before) → (opened : Opened) → IsForged text start before command opened → ⊥
-  unforged law o a' acts h = (stands law o a' (step_of thread command o ∷ before) refl acts h).legal.1.unforged
-
-  pub fault : ForgeriesLaw → (f : StepFault) → IsStepFault text command a f → IsWorldFault text (world_of start a before) command f
-  fault law faults.Memory forges = tt
-  fault law (faults.Forged opened) forges = λ h. law text start before a command opened sealing (is_air start a (length before) w sound) (booked_short start a (length before) w sound text before h ranges) h fits links forges
+pub begun_stands : (text : Sealing) (start : Start) → IsStart start → Stands text (world_of start (begun start) [])
+unfolding state_of
+begun_stands text start is = record { legal = is; air_is = refl }
 
 -- ---- a step that wasn't made
 
@@ -102,3 +123,8 @@ unchanged start a a' steps steps' same same_steps = ap (λ (x : AirState). world
 -- both ends have room for the step
 pub both_roomy : (start : Start) (a : AirState) (steps : List Step) → IsWorld start a (length steps) → length steps < step_limit → (e : EndId) → IsRoomy (end_of a e)
 both_roomy start a steps w lt e = roomy (length steps) (end_of a e) lt (w.bounded e)
+
+-- what holds of the two ends that did nothing holds of what is equal to them
+pub so_begun : (P : Start → AirState → List Step → Type 0) (start copy : Start) (a : AirState) (steps : List Step) → copy ≡ start → a ≡ begun start → steps ≡ [] → P start (begun start) [] → P copy a steps
+so_begun P start copy a steps same begun_is none h =
+    subst (λ (x : Start). P x a steps) (sym same) (subst (λ (x : AirState). P start x steps) (sym begun_is) (subst (λ (x : List Step). P start (begun start) x) (sym none) h))

@@ -1,5 +1,5 @@
-pub mod Acked
 pub mod Air
 pub mod World
 pub mod Acting
+pub mod Listening
 pub mod Playing

@@ -12,7 +12,8 @@ use Rattle.wl_history.specs.declared.script.Plain.{Plain}
 use Rattle.wl_history.specs.declared.script.Plain.TheVariants.{Do, Send}
 use Rattle.wl_history.specs.declared.start.Start.{Start}
 use Rattle.wl_history.specs.declared.step.Step.{Step}
-use Rattle.wl_history.specs.Legal.{Fits, IsForged}
+use Rattle.wl_history.specs.AirState.{state_of}
+use Rattle.wl_history.specs.Legal.{Fits, Forges}
 use Rattle.wl_history.specs.Runs.{Did, PlainThen, ForgedNext, Stops}
 use Rattle.wl_air.specs.declared.fault.StepFault.{StepFault}
 use Rattle.wl_air.specs.declared.fault.StepFault.TheVariants as faults
@@ -57,7 +58,7 @@ Reaches text start (Once plain ∷ items) before after =
 
 -- why a step wasn't made, in the words of the history
 abbrev pub IsWorldFault : Sealing → WorldState → Command → StepFault → Type 0
-IsWorldFault text w command (faults.Forged opened) = Stands text w → IsForged text w.start w.steps command opened
+IsWorldFault text w command (faults.Forged opened) = Stands text w → Forges text command (state_of text w.start w.steps) opened
 IsWorldFault text w command faults.Memory = Unit {0}
 
 abbrev pub PlainFault : Sealing → Start → Plain → List Step → List Step → StepFault → Type 0

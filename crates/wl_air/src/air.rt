@@ -1,31 +1,26 @@
 //! Two ends, and what they acknowledged.
 
-ghost use Rattle.std.specs.Prelude.{◌≡◌, ◌+◌, ◌-◌, ◌^◌, ◌<◌, ◌≤◌, ◌++◌, ◌∷◌, [], length, option_copied, Ok, IfOk, IfErr, OnOk, OnErr, ℕ};
+ghost use Rattle.std.specs.Prelude.{◌≡◌, ◌-◌, ◌^◌, ◌<◌, ◌≤◌, length, option_copied, Ok, IfOk, IfErr, OnErr};
 ghost use Rattle.std.specs.Result.{IsErr};
-ghost use Rattle.wl_air.specs.declared.fault.StepFault.TheVariants.{Memory as IsMemory};
-ghost use Rattle.std.specs.List.{Contains};
-ghost use Rattle.wl_number.specs.declared.numbers.Numbers.{Numbers};
-ghost use Rattle.wl_number.specs.NumberObject.{InRange};
-ghost use Rattle.wl_number.specs.OrderRule.{list_at};
-ghost use Rattle.wl_history.specs.Plain.{IsPlain};
-ghost use Rattle.wl_elem.specs.declared.lane.Lane.{Lane};
+ghost use Rattle.wl_elem.specs.Element.{msdu_limit};
 ghost use Rattle.wl_elem.specs.Lanes.{lane_index, peer_of};
+ghost use Rattle.wl_history.specs.declared.opened.Opened.{Opened};
 ghost use Rattle.wl_history.specs.declared.outcome.Outcome.TheVariants.{Queued as IsQueued, Acked as IsAcked};
-ghost use Rattle.wl_history.specs.Answers.{reserve_answer, book_answer, ack_out_answer};
+ghost use Rattle.wl_history.specs.Answers.{reserve_answer, book_answer, put_of, aired_octets, ack_out_answer, ack_answer, acks_made};
+ghost use Rattle.wl_history.specs.EndState.{lane_at, after_queue, after_reserve, after_book, after_put, after_taken, after_heard};
 ghost use Rattle.wl_history.specs.Ends.{send_size};
 ghost use Rattle.wl_history.specs.Hands.{hand_of};
-ghost use Rattle.wl_history.specs.Words.{nth_of};
-ghost use Rattle.wl_air.specs.Acked.{ack_of};
-ghost use Rattle.wl_air.specs.Acting.{Acts, BodyFits, IsStepFault, HeardIf, IsHearFault, ack_answer, after_taken, octets_named};
+ghost use Rattle.wl_history.specs.Legal.{HeardIf, ForgedIf, IsAnswer, Forges};
+ghost use Rattle.wl_history.specs.Plain.{IsPlain};
+ghost use Rattle.wl_air.specs.Acting.{BodyFits, IsHearFault, IsStepFault};
 ghost use Rattle.wl_air.specs.World.{IsRoomy};
-ghost use Rattle.wl_history.specs.EndState.{EndState, IsEnd, lane_at, after_queue, after_reserve, after_book, after_put};
-ghost use Rattle.wl_end.specs.Putting.{put_of, aired_octets};
-ghost use Rattle.wl_elem.specs.Element.{msdu_limit};
+ghost use Rattle.wl_air.specs.declared.fault.StepFault.TheVariants.{Memory as IsMemory};
 
 use crate::acks::Acks;
 use crate::fault::StepFault;
-use crate::listening::{aired, hear_if};
+use crate::heard::{aired, hear_if};
 use std::alloc::Global;
+use std::marker::Model;
 use wl_elem::{Bytes, EndId, Lane, LinkId, Memory, Tid};
 use wl_end::End;
 use wl_frame::Sealer;
@@ -35,13 +30,21 @@ use wl_history::{Ack, Command, Outcome, SequenceNumbers, Start};
 #[derive(Debug, Drop)]
 pub struct Air {
     /// The AP MLD.
-    pub ap: End,
+    ap: End,
     /// The station MLD.
-    pub sta: End,
+    sta: End,
     /// What the AP acknowledged.
-    pub ap_acks: Acks,
+    ap_acks: Acks,
     /// What the station acknowledged.
-    pub sta_acks: Acks,
+    sta_acks: Acks,
+}
+
+impl Model for Air {
+    ghost use Rattle.wl_history.specs.AirState.{AirState};
+
+    ghost Value = { AirState };
+
+    ghost view = { λ a. record { ap = a.ap; sta = a.sta; ap_acks = a.ap_acks; sta_acks = a.sta_acks } };
 }
 
 /// The answer to an acknowledgement that was made.
@@ -76,7 +79,7 @@ fn acknowledge(
 ) -> Result<(Outcome, Outcome), Memory>
     ensures answer { IfOk result (λ o. o.0 ≡ ack_out_answer (lane_at end.now (lane_index lane.now)).window) }
     ensures again { IfOk result (λ o. o.1 ≡ o.0) }
-    ensures after { OnOk result (acks.new ≡ acks.old ++ ack_of lane.now (lane_at end.now (lane_index lane.now)).window ∷ []) }
+    ensures after { IfOk result (λ o. acks.new ≡ acks_made lane.now o.0 acks.old) }
     ensures unchanged { OnErr result (acks.new ≡ acks.old) }
 {
     let ack = end.ack_out(*lane)?;
@@ -128,7 +131,8 @@ fn both(answer: Result<Outcome, Memory>) -> Result<(Outcome, Outcome), StepFault
 
 impl Air {
     ghost use Rattle.wl_elem.specs.declared.lane.EndId.{EndId};
-    ghost use Rattle.wl_air.specs.Air.{end_of, acks_of, with_end, with_acks, CanStart, begun};
+    ghost use Rattle.wl_history.specs.AirState.{end_of, acks_of, with_end, with_acks, ack_named, octets_named, begun, after};
+    ghost use Rattle.wl_air.specs.Air.{AreJoined, CanStart, Joined};
 
     /// Two ends that did nothing yet. `Memory` where there was none for their windows.
     ///
@@ -137,7 +141,6 @@ impl Air {
         requires ap { CanStart start.now.ap }
         requires sta { CanStart start.now.sta }
         ensures begun { IfOk result (λ a. a ≡ begun start.now) }
-        ensures sound { IfOk result (λ a. (e : EndId) → IsEnd (end_of a e)) }
     {
         let ap = End::new(alloc, &start.ap)?;
         let sta = End::new(alloc, &start.sta)?;
@@ -149,81 +152,18 @@ impl Air {
         })
     }
 
-    /// What holds of both ends at any time. It changes nothing and takes no memory.
-    pub fn test(&self)
-        ensures sound { (e : EndId) → IsEnd (end_of self.now e) }
-        ensures in_range { (e : EndId) (place : ℕ) (n : Numbers) → Contains (list_at (end_of self.now e).booked place) n → InRange n }
-    {
-        self.ap.test();
-        self.sta.test();
-    }
-
-    /// An acknowledgement of a lane, which is kept for the peer.
-    pub fn ack_out(
-        &mut self,
-        alloc: Global,
-        end: EndId,
-        lane: &Lane,
-    ) -> Result<(Outcome, Outcome), Memory>
-        ensures answer { IfOk result (λ o. (o.0 ≡ ack_out_answer (lane_at (end_of self.old end) (lane_index lane.now)).window) × (o.1 ≡ o.0)) }
-        ensures after { IfOk result (λ o. self.new ≡ with_acks end (acks_of self.old end ++ ack_of lane.now (lane_at (end_of self.old end) (lane_index lane.now)).window ∷ []) self.old) }
-        ensures unchanged { OnErr result (self.new ≡ self.old) }
+    /// An end.
+    pub fn end(&self, end: EndId) -> &End
+        ensures { result.now ≡ end_of self.now end }
     {
         match end {
-            EndId::Ap => acknowledge(alloc, &self.ap, lane, &mut self.ap_acks),
-            EndId::Sta => acknowledge(alloc, &self.sta, lane, &mut self.sta_acks),
-        }
-    }
-
-    /// Lets an end hear the frame of its peer of this number on a link, from 0, or the latest there. The
-    /// answer comes twice: for the caller and for the journal.
-    ///
-    /// NotThere where there is no such frame; else what `End::peek` and `End::hear` say of it. `Forged`
-    /// exactly where it opens and the peer has no booking of what it opens to. After an error nothing
-    /// has changed.
-    pub fn deliver<Z: Sealer>(
-        &mut self,
-        alloc: Global,
-        end: EndId,
-        link: LinkId,
-        nth: Option<u32>,
-        z: &Z,
-    ) -> Result<(Outcome, Outcome), StepFault>
-        requires roomy { IsRoomy (end_of self.old end) }
-        ensures heard { IfOk result (λ o. (s' : EndState) × HeardIf (Z.text z.now) (end_of self.old end) (end_of self.old (peer_of end)) link (octets_named self.old end link nth) o.0 s' × (self.new ≡ with_end end s' self.old)) }
-        ensures again { IfOk result (λ o. o.1 ≡ o.0) }
-        ensures fault { IfErr result (IsHearFault (Z.text z.now) (end_of self.old end) (end_of self.old (peer_of end)) link (octets_named self.old end link nth)) }
-        ensures unchanged { OnErr result (self.new ≡ self.old) }
-    {
-        match end {
-            EndId::Ap => {
-                let octets = aired(&self.sta, link, nth);
-                hear_if(alloc, &mut self.ap, &self.sta, link, octets, z)
-            }
-            EndId::Sta => {
-                let octets = aired(&self.ap, link, nth);
-                hear_if(alloc, &mut self.sta, &self.ap, link, octets, z)
-            }
-        }
-    }
-
-    /// Lets an end take the acknowledgement of its peer of this number, or the latest.
-    ///
-    /// NotThere where the peer made none such, OldAck where it is old; they change nothing. It takes no
-    /// memory.
-    pub fn ack_in(&mut self, end: EndId, nth: Option<u32>) -> Outcome
-        ensures plain { IsPlain result }
-        ensures answer { result ≡ ack_answer (nth_of nth (acks_of self.old (peer_of end))) (end_of self.old end) }
-        ensures after { self.new ≡ with_end end (after_taken (nth_of nth (acks_of self.old (peer_of end))) (end_of self.old end)) self.old }
-    {
-        match end {
-            EndId::Ap => take(&mut self.ap, self.sta_acks.named(nth)),
-            EndId::Sta => take(&mut self.sta, self.ap_acks.named(nth)),
+            EndId::Ap => &self.ap,
+            EndId::Sta => &self.sta,
         }
     }
 
     /// Queues a body at an end.
-    pub fn queue(
+    fn queue(
         &mut self,
         alloc: Global,
         end: EndId,
@@ -235,7 +175,7 @@ impl Air {
         requires room { length (lane_at (end_of self.old end) tid).queue < 2 ^ 32 - 8192 }
         ensures answer { IfOk result (λ o. o ≡ IsQueued (length (lane_at (end_of self.old end) tid).queue)) }
         ensures plain { IfOk result IsPlain }
-        ensures after { OnOk result (self.new ≡ with_end end (after_queue tid body.now (end_of self.old end)) self.old) }
+        ensures after { IfOk result (λ o. self.new ≡ with_end end (after_queue tid body.now (end_of self.old end)) self.old) }
         ensures unchanged { OnErr result (self.new ≡ self.old) }
     {
         let body = Bytes::from_slice(alloc, body.as_slice())?;
@@ -247,7 +187,7 @@ impl Air {
     }
 
     /// Reserves at an end.
-    pub fn reserve(&mut self, end: EndId, thread: u16, lane: &Lane) -> Result<Outcome, Memory>
+    fn reserve(&mut self, end: EndId, thread: u16, lane: &Lane) -> Result<Outcome, Memory>
         ensures answer { IfOk result (λ o. o ≡ reserve_answer (hand_of (end_of self.old end).hands thread) (length (lane_at (end_of self.old end) (lane_index lane.now)).queue) (lane_at (end_of self.old end) (lane_index lane.now)).sending (send_size (end_of self.old end).start (lane_index lane.now))) }
         ensures plain { IfOk result IsPlain }
         ensures after { IfOk result (λ o. self.new ≡ with_end end (after_reserve thread lane.now o (end_of self.old end)) self.old) }
@@ -260,7 +200,7 @@ impl Air {
     }
 
     /// Books at an end.
-    pub fn book(&mut self, end: EndId, thread: u16) -> Result<Outcome, Memory>
+    fn book(&mut self, end: EndId, thread: u16) -> Result<Outcome, Memory>
         ensures answer { IfOk result (λ o. o ≡ book_answer (hand_of (end_of self.old end).hands thread) (end_of self.old end).numbers) }
         ensures plain { IfOk result IsPlain }
         ensures after { IfOk result (λ o. self.new ≡ with_end end (after_book thread o (end_of self.old end)) self.old) }
@@ -273,7 +213,7 @@ impl Air {
     }
 
     /// Puts at an end.
-    pub fn put<Z: Sealer>(
+    fn put<Z: Sealer>(
         &mut self,
         end: EndId,
         thread: u16,
@@ -291,10 +231,77 @@ impl Air {
         }
     }
 
+    /// An acknowledgement of a lane, which is kept for the peer.
+    fn ack_out(
+        &mut self,
+        alloc: Global,
+        end: EndId,
+        lane: &Lane,
+    ) -> Result<(Outcome, Outcome), Memory>
+        ensures answer { IfOk result (λ o. (o.0 ≡ ack_out_answer (lane_at (end_of self.old end) (lane_index lane.now)).window) × (o.1 ≡ o.0)) }
+        ensures after { IfOk result (λ o. self.new ≡ with_acks end (acks_made lane.now o.0 (acks_of self.old end)) self.old) }
+        ensures unchanged { OnErr result (self.new ≡ self.old) }
+    {
+        match end {
+            EndId::Ap => acknowledge(alloc, &self.ap, lane, &mut self.ap_acks),
+            EndId::Sta => acknowledge(alloc, &self.sta, lane, &mut self.sta_acks),
+        }
+    }
+
+    /// Lets an end take the acknowledgement of its peer of this number, or the latest.
+    ///
+    /// NotThere where the peer made none such, OldAck where it is old; they change nothing. It takes no
+    /// memory.
+    fn ack_in(&mut self, end: EndId, nth: Option<u32>) -> Outcome
+        ensures plain { IsPlain result }
+        ensures answer { result ≡ ack_answer (ack_named self.old end nth) (end_of self.old end) }
+        ensures after { self.new ≡ with_end end (after_taken (ack_named self.old end nth) (end_of self.old end)) self.old }
+    {
+        match end {
+            EndId::Ap => take(&mut self.ap, self.sta_acks.named(nth)),
+            EndId::Sta => take(&mut self.sta, self.ap_acks.named(nth)),
+        }
+    }
+
+    /// Lets an end hear the frame of its peer of this number on a link, from 0, or the latest there. The
+    /// answer comes twice: for the caller and for the journal.
+    ///
+    /// NotThere where there is no such frame; else what `End::peek` and `End::hear` say of it. `Forged`
+    /// exactly where it opens and the peer has no booking of what it opens to. After an error nothing
+    /// has changed.
+    fn deliver<Z: Sealer>(
+        &mut self,
+        alloc: Global,
+        end: EndId,
+        link: LinkId,
+        nth: Option<u32>,
+        z: &Z,
+    ) -> Result<(Outcome, Outcome), StepFault>
+        requires roomy { IsRoomy (end_of self.old end) }
+        ensures answer { IfOk result (λ o. AreJoined (end_of self.old end) (end_of self.old (peer_of end)) → HeardIf (Z.text z.now) (end_of self.old end) (end_of self.old (peer_of end)) link (octets_named self.old end link nth) o.0) }
+        ensures unforged { IfOk result (λ o. AreJoined (end_of self.old end) (end_of self.old (peer_of end)) → (opened : Opened) → ForgedIf (Z.text z.now) (end_of self.old end) (end_of self.old (peer_of end)) link (octets_named self.old end link nth) opened → ⊥) }
+        ensures after { IfOk result (λ o. self.new ≡ with_end end (after_heard (end_of self.old (peer_of end)) o.0 (end_of self.old end)) self.old) }
+        ensures again { IfOk result (λ o. o.1 ≡ o.0) }
+        ensures fault { IfErr result (λ f. AreJoined (end_of self.old end) (end_of self.old (peer_of end)) → IsHearFault (Z.text z.now) (end_of self.old end) (end_of self.old (peer_of end)) link (octets_named self.old end link nth) f) }
+        ensures unchanged { OnErr result (self.new ≡ self.old) }
+    {
+        match end {
+            EndId::Ap => {
+                let octets = aired(&self.sta, link, nth);
+                hear_if(alloc, &mut self.ap, &self.sta, link, octets, z)
+            }
+            EndId::Sta => {
+                let octets = aired(&self.ap, link, nth);
+                hear_if(alloc, &mut self.sta, &self.ap, link, octets, z)
+            }
+        }
+    }
+
     /// Lets an end do a command of a thread. The answer comes twice: for the caller and for the journal.
     ///
     /// `Forged` exactly where a delivered frame opens and its sender has no booking of what it opens to.
-    /// After an error nothing has changed.
+    /// After an error nothing has changed. What is answered of a frame that is heard is told of ends that
+    /// know each other's addresses.
     ///
     /// Conditions: a body to be queued has 1 to 2,304 octets, no queue has 2^32 - 8,192 bodies or more,
     /// and no window starts there or higher.
@@ -307,9 +314,11 @@ impl Air {
     ) -> Result<(Outcome, Outcome), StepFault>
         requires fits { BodyFits command.now }
         requires roomy { (e : EndId) → IsRoomy (end_of self.old e) }
-        ensures acts { IfOk result (λ o. Acts (Z.text z.now) thread command.now self.old o.0 self.new) }
+        ensures answer { IfOk result (λ o. Joined self.old → IsAnswer (Z.text z.now) thread command.now self.old o.0) }
+        ensures unforged { IfOk result (λ o. Joined self.old → (opened : Opened) → Forges (Z.text z.now) command.now self.old opened → ⊥) }
+        ensures after { IfOk result (λ o. self.new ≡ after (Z.text z.now) thread command.now o.0 self.old) }
         ensures again { IfOk result (λ o. o.1 ≡ o.0) }
-        ensures fault { IfErr result (IsStepFault (Z.text z.now) command.now self.old) }
+        ensures fault { IfErr result (λ f. Joined self.old → IsStepFault (Z.text z.now) command.now self.old f) }
         ensures unchanged { OnErr result (self.new ≡ self.old) }
     {
         match command {

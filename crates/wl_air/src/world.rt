@@ -4,21 +4,19 @@ ghost use Rattle.std.specs.Prelude.{◌≡◌, ◌∷◌, ◌+◌, ◌<◌, ◌�
 ghost use Rattle.wl_history.specs.declared.opened.Opened.{Opened};
 ghost use Rattle.wl_history.specs.declared.step.Step.{Step};
 ghost use Rattle.wl_history.specs.Ends.{IsStart};
-ghost use Rattle.wl_history.specs.Legal.{Fits, IsForged};
+ghost use Rattle.wl_history.specs.Legal.{Fits, Forges, InRanges, InWord, step_limit};
 ghost use Rattle.wl_history.specs.Runs.{step_of};
 ghost use Rattle.wl_history.specs.Safe.{Safe};
-ghost use Rattle.wl_air.specs.Acting.{Acts, BodyFits, IsStepFault, OnLinks};
+ghost use Rattle.wl_air.specs.Acting.{BodyFits, IsStepFault};
 ghost use Rattle.wl_air.specs.World.{IsRoomy};
-ghost use Rattle.wl_air.specs.Air.{end_of as air_end};
 
 use crate::air::Air;
 use crate::fault::StepFault;
-use crate::laws::{acts_make_steps, forgeries_are_forged, the_start_stands};
 use std::alloc::Global;
 use std::marker::Model;
-use wl_elem::{EndId, LinkId, Memory};
+use wl_elem::{EndId, Memory};
 use wl_end::End;
-use wl_frame::{Sealer, sealer_is_sealing};
+use wl_frame::Sealer;
 use wl_history::{Command, Journal, Outcome, Start, Step, Steps, every_history_is_safe};
 
 /// Two ends, the air between them, and the history of all steps that they made.
@@ -40,14 +38,24 @@ impl Model for World {
     ghost invariant = { λ w. IsWorld w.journal.start w.air (length w.journal.steps) };
 }
 
-/// The links of a command have IDs below 15.
-fn test_links(command: &Command)
-    ensures { OnLinks command.now }
+/// A number is one of 32 bits.
+fn test_number(nth: Option<u32>)
+    ensures { InWord nth }
+{}
+
+/// The links of a command have IDs below 15, and the numbers that it names have 32 bits.
+fn test_ranges(command: &Command)
+    ensures { InRanges command.now }
 {
     match command {
-        Command::Put { link, .. } | Command::Deliver { link, .. } => {
+        Command::Put { link, .. } => {
             link.get();
         }
+        Command::Deliver { link, nth, .. } => {
+            link.get();
+            test_number(*nth);
+        }
+        Command::AckIn { nth, .. } => test_number(*nth),
         _ => (),
     }
 }
@@ -67,9 +75,9 @@ impl World {
     ghost use Rattle.wl_elem.specs.declared.lane.EndId.{EndId};
     ghost use Rattle.wl_frame.specs.Sealing.{Sealing};
     ghost use Rattle.wl_history.specs.EndState.{IsEnd};
-    ghost use Rattle.wl_air.specs.Air.{begun};
+    ghost use Rattle.wl_history.specs.AirState.{begun, state_of};
     ghost use Rattle.wl_air.specs.Playing.{IsWorldFault};
-    ghost use Rattle.wl_air.specs.World.{IsBounded, Stands, end_of, step_limit, world_of};
+    ghost use Rattle.wl_air.specs.World.{IsBounded, Stands, end_of, world_of};
 
     /// Two ends that did nothing yet. `Memory` where there was none for their windows.
     ///
@@ -80,7 +88,6 @@ impl World {
         ensures begun { IfOk result (λ w. w ≡ world_of start.now (begun start.now) []) }
         ensures stands { IfOk result (λ w. (text : Sealing) → Stands text w) }
     {
-        the_start_stands();
         let kept = start.copy(alloc)?;
         let air = Air::new(alloc, start)?;
         let journal = Journal {
@@ -115,16 +122,12 @@ impl World {
         ensures stepped { IfOk result (λ o. self.new.steps ≡ step_of thread command o ∷ self.old.steps) }
         ensures stands { Stands (Z.text z.now) self.old → Stands (Z.text z.now) self.new }
         ensures safe { Stands (Z.text z.now) self.old → Safe (Z.text z.now) self.new.start self.new.steps }
-        ensures unforged { IfOk result (λ o. Stands (Z.text z.now) self.old → (opened : Opened) → IsForged (Z.text z.now) self.old.start self.old.steps command opened → ⊥) }
+        ensures unforged { IfOk result (λ o. Stands (Z.text z.now) self.old → (opened : Opened) → Forges (Z.text z.now) command (state_of (Z.text z.now) self.old.start self.old.steps) opened → ⊥) }
         ensures fault { IfErr result (IsWorldFault (Z.text z.now) self.old command) }
         ensures unchanged { OnErr result (self.new ≡ self.old) }
     {
-        sealer_is_sealing(z);
-        acts_make_steps();
-        forgeries_are_forged();
         every_history_is_safe();
-        self.air.test();
-        test_links(&command);
+        test_ranges(&command);
         // The room for the step is taken first: what an end did can't be undone.
         self.journal.steps.push(Step {
             thread,
@@ -173,10 +176,8 @@ impl World {
         ensures bounded { IsBounded (length self.now.steps) result.now }
         ensures few { length self.now.steps ≤ step_limit }
     {
-        self.air.test();
-        match end {
-            EndId::Ap => &self.air.ap,
-            EndId::Sta => &self.air.sta,
-        }
+        let found = self.air.end(end);
+        found.test();
+        found
     }
 }

@@ -11,7 +11,6 @@ mod elements;
 mod encode;
 mod fault;
 mod fields;
-mod finding;
 mod item;
 mod kind;
 mod known;
@@ -33,7 +32,7 @@ pub use cutting_laws::{
 };
 pub use decode::decode_elements;
 pub use element::Element;
-pub use elements::Elements;
+pub use elements::{Elements, find};
 pub use encode::{encode_elements, encoded_len};
 pub use fault::{Fault, Memory, Refusal};
 pub use fields::{
@@ -41,7 +40,6 @@ pub use fields::{
     put_u16, put_u24, put_u64, short_if, short_len, u8_if, u8_len, u16_at, u16_if, u16_len, u24_if,
     u24_len, u64_if, u64_len, width_if,
 };
-pub use finding::find;
 pub use item::Item;
 pub use kind::ListKind;
 pub use known::{EXTENDED, Known, MULTI_LINK, NON_INHERITANCE, TID_TO_LINK_MAPPING};

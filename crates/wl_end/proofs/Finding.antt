@@ -9,7 +9,7 @@ use Rattle.wl_number.specs.declared.numbers.Numbers.{Numbers}
 use Rattle.wl_number.specs.OrderRule.{OrderRule, list_at, same_pair}
 use Rattle.wl_number.specs.Bookings.{BookedWith}
 use Rattle.wl_history.specs.declared.opened.Opened.{Opened}
-use Rattle.wl_end.specs.declared.airing.Under.{Under}
+use Rattle.wl_end.specs.declared.flight.Under.{Under}
 use Rattle.wl_end.specs.Putting.{four_of}
 
 abbrev pub BookedOnce : Type 0

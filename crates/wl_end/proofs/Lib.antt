@@ -1,6 +1,5 @@
 pub mod Places
 pub mod Counting
-pub mod Laws
 pub mod Keeping
 pub mod Booking
 pub mod Writing
@@ -8,4 +7,3 @@ pub mod Octets
 pub mod Finding
 pub mod Releasing
 pub mod Rising
-pub mod Listening

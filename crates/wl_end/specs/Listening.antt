@@ -7,8 +7,8 @@ use Rattle.wl_replay.specs.Replay.{last_of}
 use Rattle.wl_window.specs.Reordering.{Arrived, Old, Doubled, Stored}
 use Rattle.wl_history.specs.declared.arrival.Arrival.{Arrival}
 use Rattle.wl_history.specs.EndState.{LaneState, let_up}
-use Rattle.wl_end.specs.declared.hearing.Heard.{Heard}
-use Rattle.wl_end.specs.declared.hearing.Heard.TheVariants as heard
+use Rattle.wl_end.specs.declared.heard.Heard.{Heard}
+use Rattle.wl_end.specs.declared.heard.Heard.TheVariants as heard
 
 -- what is told of it, where this was the lane's last pair
 abbrev pub heard_of : Option Pair → Arrived Arrival → Heard

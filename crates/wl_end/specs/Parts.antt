@@ -1,5 +1,4 @@
--- For private contracts alone, but for `frame_count` and what an end starts with: the parts of an
--- end.
+-- For private contracts alone, but for `frame_count`: the parts of an end.
 use Rattle.std.specs.Prelude.{◌≡◌, ℕ, ◌+◌, ◌^◌, ◌<◌, ◌≤◌, List, [], ◌∷◌, length, slice_index_or, slice_set}
 use Rattle.std.specs.List.{AllByRecursion}
 use Rattle.wl_elem.specs.declared.lane.Lane.{Lane}
@@ -46,11 +45,3 @@ frames_of frames link = slice_index_or frames link []
 abbrev pub frame_count : List (List (List ℕ)) → ℕ
 frame_count [] = 0
 frame_count (on_link ∷ frames) = length on_link + frame_count frames
-
--- the lanes of an end that did nothing yet
-abbrev pub no_lanes : List LaneState
-no_lanes = no_lane ∷ no_lane ∷ no_lane ∷ no_lane ∷ no_lane ∷ no_lane ∷ no_lane ∷ no_lane ∷ no_lane ∷ []
-
--- its frames
-abbrev pub no_frames : List (List (List ℕ))
-no_frames = [] ∷ [] ∷ [] ∷ [] ∷ [] ∷ [] ∷ [] ∷ [] ∷ [] ∷ [] ∷ [] ∷ [] ∷ [] ∷ [] ∷ [] ∷ []

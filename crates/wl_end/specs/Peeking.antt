@@ -17,9 +17,9 @@ use Rattle.wl_history.specs.Hearing.{Closed, Judged, Answered, ToOpen, judged, o
 use Rattle.wl_history.specs.Legal.{IsBodyIn}
 use Rattle.wl_history.specs.Words.{body_at}
 use Rattle.wl_history.specs.EndState.{EndState, lane_at}
-use Rattle.wl_end.specs.declared.peeking.Payload.{Payload}
-use Rattle.wl_end.specs.declared.peeking.Peek.{Peek}
-use Rattle.wl_end.specs.declared.peeking.Peek.TheVariants as peeks
+use Rattle.wl_end.specs.declared.peek.Payload.{Payload}
+use Rattle.wl_end.specs.declared.peek.Peek.{Peek}
+use Rattle.wl_end.specs.declared.peek.Peek.TheVariants as peeks
 
 -- a payload to be opened, with its octets
 abbrev pub closed_of : Payload → List ℕ → Closed

@@ -20,24 +20,23 @@ ghost use Rattle.wl_history.specs.Plain.{IsPlain, FitsIn};
 ghost use Rattle.wl_history.specs.Words.{at, last_of};
 ghost use Rattle.wl_elem.specs.Element.{msdu_limit};
 
-use crate::airing::{Flight, Under, frame_octets};
+use crate::flight::{Flight, Under, frame_octets};
 use crate::frames::Frames;
 use crate::hands::Hands;
-use crate::hearing::Heard;
+use crate::heard::Heard;
 use crate::lanes::Lanes;
 use crate::links::{is_set_up, link_at, links_set_up};
-use crate::peeking::{Peek, peek_frame};
+use crate::peek::{Peek, peek_frame};
 use std::alloc::Global;
 use std::marker::Model;
 use wl_elem::{Bytes, EndId, Lane, LinkId, LinkSet, Memory, Tid};
 use wl_frame::{Sealer, decode_frame};
 use wl_history::{
-    Ack, Arrival, EndStart, Hand, KeptWhy, Opened, Outcome, SequenceNumbers, sender_books,
-    sender_gives_back, sender_reserves, sender_stays,
+    Ack, Arrival, EndStart, Hand, KeptWhy, Opened, Outcome, SequenceNumbers, an_end_keeps,
 };
 use wl_number::{Bookings, NumberState, Numbers, a_draw_is_next, booked_once, highest_breaks_none};
 use wl_replay::{KeyRing, ReplayGuard};
-use wl_window::{OriginRefusal, booked_after_ack};
+use wl_window::OriginRefusal;
 
 /// One end of an association: an AP MLD or a station MLD.
 ///
@@ -128,11 +127,11 @@ fn enter(booked: &mut Bookings, lane: &Lane, n: Numbers)
 }
 
 impl End {
-    ghost use Rattle.wl_history.specs.EndState.{EndState, IsEnd, lane_at, frames_on, after_queue, after_reserve, after_book, after_put, put_down, was_aired_at, hear_answer, after_hear, acked_by, after_ack};
-    ghost use Rattle.wl_end.specs.Ending.{started};
+    ghost use Rattle.wl_history.specs.EndState.{EndState, IsEnd, lane_at, frames_on, started, after_queue, after_reserve, after_book, after_put, put_down, was_aired_at, hear_answer, after_hear, acked_by, after_ack};
     ghost use Rattle.wl_end.specs.Parts.{frame_count};
     ghost use Rattle.wl_end.specs.Peeking.{IsPeek, PeekFits, IsBookingOf};
-    ghost use Rattle.wl_end.specs.Putting.{put_of, aired_octets, is_booking};
+    ghost use Rattle.wl_history.specs.Answers.{put_of, aired_octets};
+    ghost use Rattle.wl_end.specs.Putting.{is_booking};
 
     /// An end that did nothing yet. `Memory` where there was none for its windows.
     ///
@@ -145,6 +144,7 @@ impl End {
         ensures started { IfOk result (λ e. e ≡ started start.now) }
         ensures sound { IfOk result (λ e. IsEnd e) }
     {
+        an_end_keeps();
         let lanes = Lanes::new(alloc)?;
         let start = start.copy(alloc)?;
         let numbers = NumberState::new(start.first_key, start.first_pn);
@@ -175,7 +175,7 @@ impl End {
         ensures unchanged { OnErr result (self.new ≡ self.old) }
         ensures sound { IsEnd self.new }
     {
-        sender_stays();
+        an_end_keeps();
         let lane = Lane::Tid(tid);
         let pos = self.lanes.at(&lane).queued();
         self.lanes.queue(&lane, body)?;
@@ -194,8 +194,7 @@ impl End {
         ensures unchanged { OnErr result (self.new ≡ self.old) }
         ensures sound { IsEnd self.new }
     {
-        sender_stays();
-        sender_reserves();
+        an_end_keeps();
         test_lane(&lane);
         match self.hands.get(thread) {
             Hand::Empty => (),
@@ -218,8 +217,7 @@ impl End {
         ensures after { self.new ≡ after_book thread (Outcome.Spent lane.now) self.old }
         ensures sound { IsEnd self.new }
     {
-        sender_stays();
-        sender_gives_back();
+        an_end_keeps();
         test_lane(lane);
         self.lanes.give_back(lane);
         self.hands.replace(thread, Hand::Empty);
@@ -234,8 +232,7 @@ impl End {
         ensures unchanged { OnErr result (self.new ≡ self.old) }
         ensures sound { IsEnd self.new }
     {
-        sender_stays();
-        sender_books();
+        an_end_keeps();
         a_draw_is_next();
         highest_breaks_none();
         test_lane(lane);
@@ -292,8 +289,7 @@ impl End {
         ensures unchanged { OnErr result (self.new ≡ self.old) }
         ensures sound { IsEnd self.new }
     {
-        sender_stays();
-        sender_gives_back();
+        an_end_keeps();
         test_lane(lane);
         let kept = self.lanes.at(lane);
         let retry = kept.was_aired(n.pos);
@@ -321,7 +317,7 @@ impl End {
         ensures after { self.new ≡ put_down thread (hand_of self.old.hands thread) self.old }
         ensures sound { IsEnd self.new }
     {
-        sender_gives_back();
+        an_end_keeps();
         let empty = Hand::Empty;
         self.hands.replace(thread, empty);
     }
@@ -426,7 +422,7 @@ impl End {
         ensures unchanged { OnErr result (self.new ≡ self.old) }
         ensures sound { IsEnd self.new }
     {
-        sender_stays();
+        an_end_keeps();
         test_lane(&lane);
         let numbers = arrival.numbers;
         if !self.guard.above(lane, numbers.key, numbers.pn) {
@@ -477,8 +473,7 @@ impl End {
         ensures after { self.new ≡ after_ack ack.now self.old }
         ensures sound { IsEnd self.new }
     {
-        booked_after_ack();
-        sender_stays();
+        an_end_keeps();
         test_lane(&ack.lane);
         self.lanes.ack(&ack.lane, ack.start, ack.stored.as_slice())
     }

@@ -25,7 +25,8 @@ impl Model for Frames {
 }
 
 impl Frames {
-    ghost use Rattle.wl_end.specs.Parts.{no_frames, frames_of, frame_count};
+    ghost use Rattle.wl_history.specs.EndState.{no_frames};
+    ghost use Rattle.wl_end.specs.Parts.{frames_of, frame_count};
 
     /// Nothing was aired. It takes no memory.
     pub fn new(alloc: Global) -> Frames

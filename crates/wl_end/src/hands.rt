@@ -4,7 +4,7 @@ ghost use Rattle.std.specs.Prelude.{◌≡◌, ◌<◌, ◌≤◌, false, length
 ghost use Rattle.wl_history.specs.Hands.{hand_of, set_hand};
 ghost use Rattle.wl_history.specs.Answers.{is_empty};
 
-use crate::filling::fill;
+use crate::entries::fill;
 use std::alloc::Global;
 use std::marker::Model;
 use wl_elem::Memory;

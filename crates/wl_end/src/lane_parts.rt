@@ -9,8 +9,8 @@ ghost use Rattle.wl_history.specs.Words.{body_at};
 ghost use Rattle.wl_end.specs.Listening.{heard_of, HeardFits, lane_after, pairs_after};
 
 use crate::bodies::Bodies;
-use crate::filling::fill;
-use crate::hearing::{Heard, release};
+use crate::entries::fill;
+use crate::heard::{Heard, release};
 use std::alloc::Global;
 use std::marker::Model;
 use wl_elem::{Bytes, Lane, Memory};

@@ -7,7 +7,7 @@ ghost use Rattle.wl_window.specs.Reordering.{arrived};
 ghost use Rattle.wl_window.specs.Originating.{Sending, is_booked, booked_count, reserved, with_booked, acked, sending_after, granted_answer, newly_answer, sending_acked};
 ghost use Rattle.wl_end.specs.Listening.{heard_of, HeardFits, lane_after, pairs_after};
 
-use crate::hearing::Heard;
+use crate::heard::Heard;
 use crate::lane_parts::LaneParts;
 use std::alloc::Global;
 use std::marker::Model;
@@ -45,7 +45,8 @@ impl Model for Lanes {
 
 impl Lanes {
     ghost use Rattle.wl_history.specs.EndState.{aired_at};
-    ghost use Rattle.wl_end.specs.Parts.{IsShort, no_lanes, lane_of, with_lane_of};
+    ghost use Rattle.wl_history.specs.EndState.{no_lanes};
+    ghost use Rattle.wl_end.specs.Parts.{IsShort, lane_of, with_lane_of};
 
     /// Nothing is queued or received on any lane.
     pub fn new(alloc: Global) -> Result<Lanes, Memory>

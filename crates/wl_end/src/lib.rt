@@ -2,17 +2,17 @@
 //! opens, orders and acknowledges those of its peer.
 #![tactic(auto)]
 
-mod airing;
 mod bodies;
 mod end;
-mod filling;
+mod entries;
+mod flight;
 mod frames;
 mod hands;
-mod hearing;
+mod heard;
 mod lane_parts;
 mod lanes;
 mod links;
-mod peeking;
+mod peek;
 
 pub use end::End;
-pub use peeking::Peek;
+pub use peek::Peek;

@@ -4,10 +4,9 @@ use Rattle.std.specs.Prelude.{◌⊎◌, ◌==◌, ◌&&◌, nat_le, if◌then�
 use Rattle.std.specs.List.{Contains}
 use Rattle.wl_elem.specs.declared.fault.Refusal.{Refusal}
 use Rattle.wl_elem.specs.declared.lane.EndId.{EndId}
-use Rattle.wl_elem.specs.declared.lane.EndId.TheVariants.{Ap, Sta}
 use Rattle.wl_elem.specs.declared.lane.Lane.{Lane}
 use Rattle.wl_elem.specs.declared.lane.Lane.TheVariants as lanes
-use Rattle.wl_elem.specs.Lanes.{same_end, peer_of}
+use Rattle.wl_elem.specs.Lanes.{peer_of}
 use Rattle.wl_frame.specs.declared.header.Kind.{Kind}
 use Rattle.wl_frame.specs.declared.header.Kind.TheVariants.{Qos, Action, AssocAsk, AssocReply}
 use Rattle.wl_frame.specs.declared.header.Protection.{Protection}
@@ -17,27 +16,17 @@ use Rattle.wl_number.specs.declared.numbers.Numbers.{Numbers}
 use Rattle.wl_number.specs.NumberObject.{NumberObject, is_spent, drawn}
 use Rattle.wl_window.specs.Originating.{Sending, reserved}
 use Rattle.wl_window.specs.declared.refusal.OriginRefusal.TheVariants.{NothingQueued, WindowFull}
-use Rattle.wl_window.specs.Reordering.{Arrived, Old, Doubled, Stored, arrived}
 use Rattle.wl_history.specs.declared.hand.Hand.{Hand}
 use Rattle.wl_history.specs.declared.hand.Hand.TheVariants as hand
-use Rattle.wl_history.specs.declared.arrival.Arrival.{Arrival}
 use Rattle.wl_history.specs.declared.outcome.Outcome.{Outcome}
 use Rattle.wl_history.specs.declared.outcome.Outcome.TheVariants as outcomes
 use Rattle.wl_history.specs.declared.outcome.KeptWhy.TheVariants.{NotSetUp}
 use Rattle.wl_history.specs.declared.start.EndStart.{EndStart}
 use Rattle.wl_history.specs.Plain.{IsPlain}
-use Rattle.wl_history.specs.Words.{Receiving, is_new}
-use Rattle.wl_history.specs.Answers.{is_empty, granted_outcome, reserve_answer, book_answer, put_answer, arrived_answer, receive_answer, released_positions}
+use Rattle.wl_history.specs.Answers.{is_empty, granted_outcome, reserve_answer, book_answer, put_answer}
 use Rattle.wl_history.specs.Hearing.{Closed, Judged, Answered, ToOpen, with_key, judged_protected, judged_kind, judged, is_of, booking_of, same_octets, is_own_way}
 use Rattle.wl_history.specs.Ends.{is_set_up, link_address}
 use Rattle.wl_elem.specs.declared.why.Why.TheVariants.{WrongAddress}
-
--- the end that acts is the one that is looked at, or another
-pub at_end : (P : EndId → EndId → Bool → Type 0) → ((x : EndId) → P x x true) → ((x y : EndId) → P x y false) → (end e : EndId) → P end e (same_end end e)
-at_end P same other Ap Ap = same Ap
-at_end P same other Ap Sta = other Ap Sta
-at_end P same other Sta Ap = other Sta Ap
-at_end P same other Sta Sta = same Sta
 
 empty_hand : (h : Hand) → is_empty h ≡ true → h ≡ hand.Empty
 empty_hand hand.Empty e = refl
@@ -136,16 +125,3 @@ found_there_by false m n ms later more found = let old = more found in (suc old.
 pub found_there : (text : Sealing) (start : EndStart) (e : EndId) (c : Closed) (bodies : List (List ℕ)) (ms : List Numbers) (n : Numbers) → booking_of text start e c bodies ms ≡ Some n → Contains ms n
 found_there text start e c bodies [] n found = absurd (cc found)
 found_there text start e c bodies (m ∷ ms) n found = found_there_by (is_of text start e c bodies m) m n ms _ (found_there text start e c bodies ms n) found
-
-arrived_cases : (P : Outcome → Type 0) (lane : Lane) (number : ℕ) (n : Numbers) (released : List Arrival) (come : Arrived Arrival) → P outcomes.OldNumber → P outcomes.Double → ((up : List ℕ) → P (outcomes.Stored lane number n up)) → P (arrived_answer lane number n released come)
-arrived_cases P lane number n released Old old double stored = old
-arrived_cases P lane number n released Doubled old double stored = double
-arrived_cases P lane number n released (Stored moved) old double stored = stored (released_positions moved.up released)
-
-receive_by : (P : Outcome → Type 0) (above : Bool) (o : Outcome) → P outcomes.Replay → P o → P (if above then o else outcomes.Replay)
-receive_by P true o replay yes' = yes'
-receive_by P false o replay yes' = replay
-
-pub receive_cases : (P : Outcome → Type 0) (lane : Lane) (number size : ℕ) (item : Arrival) (r : Receiving) → P outcomes.Replay → P outcomes.OldNumber → P outcomes.Double → ((up : List ℕ) → P (outcomes.Stored lane number item.numbers up)) → P (receive_answer lane number size item r)
-receive_cases P lane number size item r replay old double stored =
-    receive_by P (is_new item.numbers r.released) _ replay (arrived_cases P lane number item.numbers r.released (arrived r.window number size item) old double stored)

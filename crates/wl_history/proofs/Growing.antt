@@ -26,6 +26,12 @@ pub position_queued : (queue : ℕ → List (List ℕ)) (hands : List Hand) (o :
     → (l : ℕ) (n : Numbers) → Contains (list_at lanes l) n → n.pos < length (queue l)
 position_queued queue hands o lanes sending s l n is = omega (arith, s.lower l n is, s.counted l, s.within l)
 
+-- a place where something is booked is one of the lists
+pub contains_within : (lists : List (List Numbers)) (place : ℕ) (n : Numbers) → Contains (list_at lists place) n → place < length lists
+contains_within [] place n (i, lt, is) = absurd (omega (arith, lt))
+contains_within (list ∷ lists) zero n h = omega arith
+contains_within (list ∷ lists) (suc place) n h = let lt : place < length lists = contains_within lists place n h in omega (arith, lt)
+
 -- ---- queues
 
 body_before : (xs : List (List ℕ)) (body : List ℕ) (pos : ℕ) → pos < length xs → body_at (xs ++ body ∷ []) pos ≡ body_at xs pos
@@ -68,6 +74,10 @@ pub record AiredWell (queue : ℕ → List (List ℕ)) (lanes : List (List Numbe
 
 abbrev pub Aired : (ℕ → List (List ℕ)) → List (List Numbers) → List Airing → Type 0
 Aired queue lanes airings = (a : Airing) → Contains airings a → AiredWell queue lanes a
+
+pub aired_still : (queue queue' : ℕ → List (List ℕ)) (lanes lanes' : List (List Numbers)) (airings : List Airing) → ((l : ℕ) (n : Numbers) (body : List ℕ) → IsBooking queue lanes l n body → IsBooking queue' lanes' l n body)
+    → Aired queue lanes airings → Aired queue' lanes' airings
+aired_still queue queue' lanes lanes' airings f h a there = record { booking = f (lane_index a.lane) a.numbers a.body (h a there).booking; of_lane = (h a there).of_lane }
 
 pub aired_more : (queue : ℕ → List (List ℕ)) (lanes : List (List Numbers)) (airings : List Airing) (new : Airing) → AiredWell queue lanes new → Aired queue lanes airings → Aired queue lanes (airings ++ new ∷ [])
 aired_more queue lanes airings new good old a is =

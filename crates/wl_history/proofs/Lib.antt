@@ -2,6 +2,8 @@ pub mod Lanes
 pub mod Hands
 pub mod Sender
 pub mod Booking
+pub mod Keeping
+pub mod Telling
 pub mod Growing
 pub mod Receiving
 pub mod Cases

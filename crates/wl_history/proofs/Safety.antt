@@ -1,5 +1,5 @@
 -- What is sound is safe.
-use Rattle.std.proofs.Common.{◌≡◌, ℕ, ◌-◌, ◌<◌, Bool, true, false, List, [], ◌∷◌, Option, Some, None, Result, Ok, Err, refl, sym, ap, subst, ◌∙◌, arith, inl, inr}
+use Rattle.std.proofs.Common.{◌≡◌, ℕ, ◌-◌, ◌<◌, Bool, true, false, List, [], ◌∷◌, length, Option, Some, None, Result, Ok, Err, refl, sym, ap, subst, ◌∙◌, arith, inl, inr}
 use Rattle.std.specs.Prelude.{◌==◌, ◌&&◌, nat_lt, not, if◌then◌else◌}
 use Rattle.std.specs.List.{Contains, AllByRecursion}
 use Rattle.std.proofs.lemmas.Bool.{and_parts, eqb-true, ltb-true}
@@ -7,7 +7,7 @@ use Rattle.wl_elem.specs.declared.fault.Refusal.{Refusal}
 use Rattle.wl_elem.specs.declared.lane.EndId.{EndId}
 use Rattle.wl_elem.specs.declared.lane.Lane.{Lane}
 use Rattle.wl_elem.specs.declared.lane.Lane.TheVariants as lanes
-use Rattle.wl_elem.specs.Lanes.{peer_of, lane_index, IsLane}
+use Rattle.wl_elem.specs.Lanes.{peer_of, lane_index, lane_count, IsLane}
 use Rattle.wl_elem.specs.declared.why.Why.TheVariants.{WrongAddress}
 use Rattle.wl_frame.specs.Frame.{FrameValue, is_protected}
 use Rattle.wl_frame.specs.Refusals.{ReadAs}
@@ -18,6 +18,8 @@ use Rattle.wl_frame.specs.declared.header.Protection.{Protection}
 use Rattle.wl_number.specs.declared.numbers.Numbers.{Numbers}
 use Rattle.wl_number.specs.OrderRule.{OrderRule, list_at, list_of, is_below}
 use Rattle.wl_replay.specs.Keys.{held, Holds, key_id_of}
+use Rattle.wl_replay.specs.Replay.{is_above, last_of}
+use Rattle.wl_window.specs.Reordering.{Arrived, Old, Doubled, Stored, arrived}
 use Rattle.wl_history.specs.declared.hand.Hand.{Hand}
 use Rattle.wl_history.specs.declared.hand.Hand.TheVariants as hand
 use Rattle.wl_history.specs.declared.arrival.Arrival.{Arrival}
@@ -30,15 +32,18 @@ use Rattle.wl_history.specs.declared.start.Start.{Start}
 use Rattle.wl_history.specs.declared.step.Step.{Step}
 use Rattle.wl_history.specs.Ends.{start_of, is_set_up, link_address}
 use Rattle.wl_history.specs.Hands.{hand_of}
-use Rattle.wl_history.specs.Words.{queued, body_at, hands, numbers, booked, sending, Airing, receiving}
-use Rattle.wl_history.specs.Hearing.{octets_of, Closed, Judged, Answered, ToOpen, with_key, judged_protected, judged_kind, judged, booking_of, is_of, sealed_under, opened_under, text_of, same_octets, is_own_way}
+use Rattle.wl_history.specs.Words.{queued, body_at, booked, Airing, receiving}
+use Rattle.wl_history.specs.Answers.{put_of}
+use Rattle.wl_history.specs.EndState.{EndState, lane_at, arrival_of, hear_arrived, hear_answer}
+use Rattle.wl_history.specs.AirState.{AirState, end_of, octets_named, state_of}
+use Rattle.wl_history.specs.Hearing.{Closed, Judged, Answered, ToOpen, with_key, judged_protected, judged_kind, judged, is_of, sealed_under, opened_under, text_of, same_octets, is_own_way}
 use Rattle.wl_history.specs.Plain.{IsPlain}
-use Rattle.wl_history.specs.Legal.{IsAnswer, Legal, HeardIf, judged_answer, opened_answer, put_of, newest, frame_named}
-use Rattle.wl_history.specs.Safe.{InOrder, OrderKept, IsSame, NumbersKept, PutAllowed, StepAllowed, LinksKept, FrameOpened, HeardOpened, StepOpened, KeysKept, Safe}
+use Rattle.wl_history.specs.Legal.{IsAnswer, Legal, HeardIf, judged_at, judged_answer, opened_answer, booking_found}
+use Rattle.wl_history.specs.Safe.{InOrder, OrderKept, IsSame, NumbersKept, PutAllowed, StepAllowed, LinksKept, HeardOpened, StepOpened, KeysKept, Safe}
 use Rattle.wl_history.proofs.Sender.{NumberLaws, WindowLaws}
-use Rattle.wl_history.proofs.Growing.{AiredWell, position_queued}
+use Rattle.wl_history.proofs.Growing.{AiredWell, position_queued, contains_within}
 use Rattle.wl_history.proofs.Receiving.{every, Rising, Trans}
-use Rattle.wl_history.proofs.Cases.{put_cases, plain_answer, found_is_of, found_there, receive_cases}
+use Rattle.wl_history.proofs.Cases.{put_cases, plain_answer, found_is_of, found_there}
 use Rattle.wl_history.proofs.Sound.{Sound, all_sound}
 
 -- what the order of bookings says of two
@@ -65,9 +70,12 @@ module _ (laws : OrderLaws) (booked_at_end : List (List Numbers)) (rule : OrderR
     in_order before there.1 rising.1,
   )
 
-order_kept : OrderLaws → (start : Start) (steps : List Step) → Sound start steps → (e : EndId) (l : ℕ) → OrderKept start e l steps
-order_kept laws start steps sound e l = record {
-  in_order = in_order laws (booked (peer_of e) steps) ((sound.side (peer_of e)).rule) l (receiving (start_of start e) e l steps).released
+rule_of : (text : Sealing) (start : Start) (air : AirState) (steps : List Step) → Sound text start air steps → (e : EndId) → OrderRule (booked e steps)
+rule_of text start air steps sound e = subst OrderRule (sound.told e).booked_are (sound.ends e).sender.rule
+
+order_kept : OrderLaws → (text : Sealing) (start : Start) (air : AirState) (steps : List Step) → Sound text start air steps → (e : EndId) (l : ℕ) → OrderKept start e l steps
+order_kept laws text start air steps sound e l = record {
+  in_order = in_order laws (booked (peer_of e) steps) (rule_of text start air steps sound (peer_of e)) l (receiving (start_of start e) e l steps).released
       (every _ _ (λ item b. b.booked) (receiving (start_of start e) e l steps).released (sound.got e l).released_good) (sound.got e l).rising;
   queued_there = every _ _ (λ item b. record { within = b.within; same = b.same }) (receiving (start_of start e) e l steps).released (sound.got e l).released_good;
 }
@@ -81,13 +89,13 @@ same_place (lanes.Tid a) lanes.Management p q e = absurd (omega (arith, p, e))
 same_place lanes.Management (lanes.Tid b) p q e = absurd (omega (arith, q, e))
 same_place lanes.Management lanes.Management p q e = refl
 
-module _ (laws : OrderLaws) (text : Sealing) (start : Start) (steps : List Step) (sound : Sound start steps) (e : EndId) where
+module _ (laws : OrderLaws) (text : Sealing) (start : Start) (air : AirState) (steps : List Step) (sound : Sound text start air steps) (e : EndId) where
   abbrev Well : Airing → Type 0
   Well a = AiredWell (λ l. queued e l steps) (booked e steps) a
 
   one_text : (a b : Airing) → Well a → Well b → a.numbers.key ≡ b.numbers.key → a.numbers.pn ≡ b.numbers.pn → IsSame text (start_of start e) e a b
   one_text a b p q keys pns =
-      let one = laws.one_booking (booked e steps) (lane_index a.lane) (lane_index b.lane) a.numbers b.numbers ((sound.side e).rule) p.booking.booked q.booking.booked keys pns in
+      let one = laws.one_booking (booked e steps) (lane_index a.lane) (lane_index b.lane) a.numbers b.numbers (rule_of text start air steps sound e) p.booking.booked q.booking.booked keys pns in
       let lane : a.lane ≡ b.lane = same_place a.lane b.lane p.of_lane q.of_lane one.0 in
       let body : a.body ≡ b.body =
       p.booking.same ∙ ap (λ (l : ℕ). body_at (queued e l steps) a.numbers.pos) one.0 ∙ ap (λ (n : Numbers). body_at (queued e (lane_index b.lane) steps) n.pos) one.1 ∙ sym q.booking.same in
@@ -100,34 +108,40 @@ module _ (laws : OrderLaws) (text : Sealing) (start : Start) (steps : List Step)
             ∙ ap (λ (x : List ℕ). text_of text (sealed_under (start_of start e) e b.lane b.numbers x)) body;
       }
 
+  booked_queued : (lane : Lane) (n : Numbers) → Contains (list_of (booked e steps) lane) n → n.pos < length (queued e (lane_index lane) steps)
+  booked_queued lane n is =
+      let s = end_of air e in
+      let there : Contains (list_of s.booked lane) n = subst (λ (bs : List (List Numbers)). Contains (list_of bs lane) n) (sym (sound.told e).booked_are) is in
+      let lt : lane_index lane < lane_count = omega (arith, contains_within s.booked (lane_index lane) n there, (sound.ends e).sender.nine) in
+      let pos = position_queued (λ l. (lane_at s l).queue) s.hands s.numbers s.booked (λ l. (lane_at s l).sending) (sound.ends e).sender (lane_index lane) n there in
+      omega (arith, pos, ap (λ (q : List (List ℕ)). length q) ((sound.told e).lanes (lane_index lane) lt).queue_is)
+
   numbers_kept : NumbersKept text start e steps
   numbers_kept = record {
-    rule = (sound.side e).rule;
-    booked_queued = λ lane n is. position_queued (λ l. queued e l steps) (hands e steps) (numbers (start_of start e) e steps) (booked e steps) (λ l. sending e l steps) (sound.side e) (lane_index lane) n is;
+    rule = rule_of text start air steps sound e;
+    booked_queued = booked_queued;
     aired_booked = λ a is. (sound.aired e a is).booking.booked;
     one_text = λ a b p q keys pns. one_text a b (sound.aired e a p) (sound.aired e b q) keys pns;
   }
 
 -- ---- links
 
-put_allowed : (start : EndStart) (e : EndId) (before : List Step) (link : ℕ) (h : Hand) → PutAllowed start link (put_of start e before link h)
-put_allowed start e before link hand.Empty = tt
-put_allowed start e before link (hand.Reserve lane) = tt
-put_allowed start e before link (hand.Booking lane n) = put_cases (PutAllowed start link) lane n _ _ _ tt tt (λ up. up)
+put_allowed : (start : EndStart) (s : EndState) (link : ℕ) (h : Hand) → s.start ≡ start → PutAllowed start link (put_of link h s)
+put_allowed start s link hand.Empty same = tt
+put_allowed start s link (hand.Reserve lane) same = tt
+put_allowed start s link (hand.Booking lane n) same = put_cases (PutAllowed start link) lane n _ _ _ tt tt (λ up. sym (ap (λ (x : EndStart). is_set_up x link) same) ∙ up)
 
-step_allowed : (text : Sealing) (start : Start) (before : List Step) (thread : ℕ) (command : Command) (outcome : Outcome) → IsAnswer text start before thread command outcome → StepAllowed start command outcome
-step_allowed text start before thread (commands.Queue end tid body) outcome is = tt
-step_allowed text start before thread (commands.Reserve end lane) outcome is = tt
-step_allowed text start before thread (commands.Book end) outcome is = tt
-step_allowed text start before thread (commands.Put end link) outcome is =
-    subst (PutAllowed (start_of start end) link) (sym is) (put_allowed (start_of start end) end before link (hand_of (hands end before) thread))
-step_allowed text start before thread (commands.Deliver end link nth) outcome is = tt
-step_allowed text start before thread (commands.AckOut end lane) outcome is = tt
-step_allowed text start before thread (commands.AckIn end nth) outcome is = tt
+step_allowed : (text : Sealing) (start : Start) (air : AirState) → ((e : EndId) → (end_of air e).start ≡ start_of start e) → (thread : ℕ) (command : Command) (outcome : Outcome) → IsAnswer text thread command air outcome → StepAllowed start command outcome
+step_allowed text start air starts thread (commands.Put end link) outcome is =
+    subst (PutAllowed (start_of start end) link) (sym is) (put_allowed (start_of start end) (end_of air end) link (hand_of (end_of air end).hands thread) (starts end))
+step_allowed text start air starts thread other outcome is = tt
 
-links_kept : (text : Sealing) (start : Start) (steps : List Step) → Legal text start steps → LinksKept start steps
-links_kept text start [] legal = tt
-links_kept text start (step ∷ before) legal = (links_kept text start before legal.0, step_allowed text start before step.thread step.command step.outcome legal.1.answer)
+links_kept : NumberLaws → WindowLaws → Trans → (text : Sealing) (start : Start) (steps : List Step) → Legal text start steps → LinksKept start steps
+links_kept numbers windows trans text start [] legal = tt
+links_kept numbers windows trans text start (step ∷ before) legal = (
+  links_kept numbers windows trans text start before legal.0,
+  step_allowed text start (state_of text start before) (λ e. ((all_sound numbers windows trans text start before legal.0).told e).start_is) step.thread step.command step.outcome legal.1.answer,
+)
 
 -- ---- keys
 
@@ -190,66 +204,63 @@ same_text (x ∷ xs) (y ∷ ys) e = same_first (x == y) x y xs ys refl (same_tex
 text_is : (text : Sealing) (start : EndStart) (e : EndId) (c : Closed) (bodies : List (List ℕ)) (n : Numbers) → is_of text start e c bodies n ≡ true → text_of text (opened_under start e c (body_at bodies n.pos)) ≡ c.payload
 text_is text start e c bodies n is = same_text _ _ (and_parts (n.pn == c.pn) _ (and_parts (n.key == c.key) _ is).1).1
 
-module _ (text : Sealing) (start : EndStart) (before : List Step) (e : EndId) (link : ℕ) where
-  -- what was heard of this frame, if it was stored
-  abbrev OpenedAs : Option Airing → Outcome → Type 0
-  OpenedAs a (outcomes.Stored lane number n up) = FrameOpened text start e before link lane n a
-  OpenedAs a other = Unit {0}
+module _ (text : Sealing) (s sender : EndState) (link : ℕ) where
+  quiet : (octets : Option (List ℕ)) (outcome : Outcome) → IsPlain outcome → HeardOpened text s sender link octets outcome
+  quiet octets (outcomes.Stored lane number n up) none = absurd none
+  quiet octets other none = tt
 
-  opened_none : (a : Option Airing) (outcome : Outcome) → IsPlain outcome → OpenedAs a outcome
-  opened_none a (outcomes.Stored lane number n up) none = absurd none
-  opened_none a other none = tt
+  -- of what is heard only what is stored says something
+  heard_by : (P : Outcome → Type 0) (lane : Lane) (number size : ℕ) (n : Numbers) → P outcomes.Replay → P outcomes.OldNumber → P outcomes.Double → ((up : List ℕ) → P (outcomes.Stored lane number n up)) → P (hear_answer lane number size (arrival_of sender lane n) s)
+  heard_by P lane number size n replay old double stored = by_above (is_above (last_of s.last lane) n.key n.pn) (arrived (lane_at s (lane_index lane)).window number size (arrival_of sender lane n))
+    where
+      by_above : (b : Bool) (come : Arrived Arrival) → P (if b then hear_arrived lane number n (last_of s.last lane) come else outcomes.Replay)
+      by_above false come = replay
+      by_above true Old = old
+      by_above true Doubled = double
+      by_above true (Stored moved) = stored _
 
-  opened_found : (a : Airing) (reading : Result FrameValue Refusal) → ReadAs (octets_of text start (peer_of e) a) reading → (c : Closed) → judged start e (newest start before) link reading ≡ ToOpen c → (found : Option Numbers)
-      → booking_of text start e c (queued (peer_of e) (lane_index c.lane) before) (list_of (booked (peer_of e) before) c.lane) ≡ found → OpenedAs (Some a) (opened_answer start e before c found)
-  opened_found a reading read c is None found = tt
-  opened_found a reading read c is (Some n) found =
-      let own = found_is_of text start e c (queued (peer_of e) (lane_index c.lane) before) (list_of (booked (peer_of e) before) c.lane) n found in
-      receive_cases (OpenedAs (Some a)) c.lane c.number _ _ _ tt tt tt (λ up. record {
-        reading = reading;
-        read = read;
-        closed = c;
-        to_open = is;
-        lane_same = refl;
-        key_held = (let key = subst (KeyHeld (newest start before)) is (key_judged start e (newest start before) link reading) in subst (λ (k : ℕ). Holds (newest start before) k) (sym (same_key text start e c (queued (peer_of e) (lane_index c.lane) before) n own)) key);
-        of_sender = found_there text start e c (queued (peer_of e) (lane_index c.lane) before) (list_of (booked (peer_of e) before) c.lane) n found;
-        opens = text_is text start e c (queued (peer_of e) (lane_index c.lane) before) n own;
-      })
+  module _ (octets : List ℕ) (reading : Result FrameValue Refusal) (read : ReadAs octets reading) where
+    opened_found : (c : Closed) → judged_at s link reading ≡ ToOpen c → (found : Option Numbers) → booking_found text s sender c ≡ found → HeardOpened text s sender link (Some octets) (opened_answer s sender c found)
+    opened_found c is None found = tt
+    opened_found c is (Some n) found =
+        let queue = (lane_at sender (lane_index c.lane)).queue in
+        let own = found_is_of text s.start s.start.end c queue (list_of sender.booked c.lane) n found in
+        heard_by (HeardOpened text s sender link (Some octets)) c.lane c.number _ n tt tt tt (λ up. record {
+          reading = reading;
+          read = read;
+          closed = c;
+          to_open = is;
+          lane_same = refl;
+          key_held = (let key = subst (KeyHeld s.newest) is (key_judged s.start s.start.end s.newest link reading) in subst (λ (k : ℕ). Holds s.newest k) (sym (same_key text s.start s.start.end c queue n own)) key);
+          of_sender = found_there text s.start s.start.end c queue (list_of sender.booked c.lane) n found;
+          opens = text_is text s.start s.start.end c queue n own;
+        })
 
-  opened_judged : (a : Airing) (reading : Result FrameValue Refusal) → ReadAs (octets_of text start (peer_of e) a) reading → (j : Judged) → judged start e (newest start before) link reading ≡ j → OpenedAs (Some a) (judged_answer text start e before j)
-  opened_judged a reading read (Answered outcome) is = opened_none (Some a) outcome (plain_answer start e (newest start before) link reading outcome is)
-  opened_judged a reading read (ToOpen c) is = opened_found a reading read c is _ refl
+    opened_judged : (j : Judged) → judged_at s link reading ≡ j → HeardOpened text s sender link (Some octets) (judged_answer text s sender j)
+    opened_judged (Answered outcome) is = quiet (Some octets) outcome (plain_answer s.start s.start.end s.newest link reading outcome is)
+    opened_judged (ToOpen c) is = opened_found c is _ refl
 
-  opened_heard : (a : Option Airing) (outcome : Outcome) → HeardIf text start e before link a outcome → OpenedAs a outcome
-  opened_heard None outcome is = subst (OpenedAs None) (sym is) tt
-  opened_heard (Some a) outcome (reading, read, is) = subst (OpenedAs (Some a)) (sym is) (opened_judged a reading read (judged start e (newest start before) link reading) refl)
+  heard_opened : (octets : Option (List ℕ)) (outcome : Outcome) → HeardIf text s sender link octets outcome → HeardOpened text s sender link octets outcome
+  heard_opened None outcome is = subst (HeardOpened text s sender link None) (sym is) tt
+  heard_opened (Some octets) outcome (reading, read, is) = subst (HeardOpened text s sender link (Some octets)) (sym is) (opened_judged octets reading read (judged_at s link reading) refl)
 
-  heard_opened : (nth : Option ℕ) (outcome : Outcome) → OpenedAs (frame_named e before link nth) outcome → HeardOpened text start e before link nth outcome
-  heard_opened nth (outcomes.Stored lane number n up) h = h
-  heard_opened nth other h = tt
-
-step_opened : (text : Sealing) (start : Start) (before : List Step) (thread : ℕ) (command : Command) (outcome : Outcome) → IsAnswer text start before thread command outcome → StepOpened text start before command outcome
-step_opened text start before thread (commands.Queue end tid body) outcome is = tt
-step_opened text start before thread (commands.Reserve end lane) outcome is = tt
-step_opened text start before thread (commands.Book end) outcome is = tt
-step_opened text start before thread (commands.Put end link) outcome is = tt
-step_opened text start before thread (commands.Deliver end link nth) outcome is =
-    heard_opened text (start_of start end) before end link nth outcome (opened_heard text (start_of start end) before end link (frame_named end before link nth) outcome is)
-step_opened text start before thread (commands.AckOut end lane) outcome is = tt
-step_opened text start before thread (commands.AckIn end nth) outcome is = tt
+step_opened : (text : Sealing) (air : AirState) (thread : ℕ) (command : Command) (outcome : Outcome) → IsAnswer text thread command air outcome → StepOpened text air command outcome
+step_opened text air thread (commands.Deliver end link nth) outcome is = heard_opened text (end_of air end) (end_of air (peer_of end)) link (octets_named air end link nth) outcome is
+step_opened text air thread other outcome is = tt
 
 keys_kept : (text : Sealing) (start : Start) (steps : List Step) → Legal text start steps → KeysKept text start steps
 keys_kept text start [] legal = tt
-keys_kept text start (step ∷ before) legal = (keys_kept text start before legal.0, step_opened text start before step.thread step.command step.outcome legal.1.answer)
+keys_kept text start (step ∷ before) legal = (keys_kept text start before legal.0, step_opened text (state_of text start before) step.thread step.command step.outcome legal.1.answer)
 
 -- ---- all
 
 pub safe : NumberLaws → WindowLaws → OrderLaws → (text : Sealing) (start : Start) (steps : List Step) → Legal text start steps → Safe text start steps
 safe numbers windows laws text start steps legal =
+    let air = state_of text start steps in
     let sound = all_sound numbers windows laws.trans text start steps legal in
     record {
-      order = λ e lane. order_kept laws start steps sound e (lane_index lane);
-      numbers = numbers_kept laws text start steps sound;
-      links = links_kept text start steps legal;
+      order = λ e lane. order_kept laws text start air steps sound e (lane_index lane);
+      numbers = numbers_kept laws text start air steps sound;
+      links = links_kept numbers windows laws.trans text start steps legal;
       keys = keys_kept text start steps legal;
     }

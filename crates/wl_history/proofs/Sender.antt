@@ -1,6 +1,6 @@
 -- What each command does to an end that sends.
-use Rattle.std.proofs.Common.{◌≡◌, ℕ, suc, ◌+◌, ◌<◌, ◌≤◌, Bool, true, false, List, length, Option, Some, None, refl, sym, ap, subst, ◌∙◌, arith, inl, inr}
-use Rattle.std.specs.Prelude.{◌==◌, ◌||◌, if◌then◌else◌}
+use Rattle.std.proofs.Common.{◌≡◌, ℕ, suc, ◌+◌, ◌<◌, ◌≤◌, true, false, List, length, Some, sym, ap, subst, ◌∙◌, arith, inl, inr}
+use Rattle.std.specs.Prelude.{◌==◌, ◌||◌}
 use Rattle.std.specs.List.{Contains}
 use Rattle.std.proofs.lemmas.Bool.{cases_eq}
 use Rattle.wl_elem.specs.declared.lane.Lane.{Lane}
@@ -12,10 +12,8 @@ use Rattle.wl_number.specs.OrderRule.{OrderRule, NoneBreaks, is_below, pair_belo
 use Rattle.wl_window.specs.Originating.{Sending, Acked, Keeps, with_booked, acked, is_booked, booked_count}
 use Rattle.wl_history.specs.declared.hand.Hand.{Hand}
 use Rattle.wl_history.specs.declared.hand.Hand.TheVariants as hand
-use Rattle.wl_history.specs.declared.ack.Ack.{Ack}
 use Rattle.wl_history.specs.Hands.{hand_of, set_hand, reserves, bit}
 use Rattle.wl_history.specs.Sender.{IsHeld, IsSender, Regranted}
-use Rattle.wl_history.specs.Words.{acked_or, sending_acked}
 use Rattle.wl_history.proofs.Hands.{hand_set, hand_kept, count_set}
 
 -- what the crate of numbers says of them
@@ -38,9 +36,6 @@ pub lane_within : (lane : Lane) → IsLane lane → lane_index lane < lane_count
 lane_within (lanes.Tid tid) h = omega arith
 lane_within lanes.Management h = omega arith
 
-alike : (s : Sending) → Keeps s s
-alike s = record { granted = refl; marks = λ pos. refl; counts = refl }
-
 -- queues that grow, and windows that keep what is booked
 pub still_sender : (queue queue' : ℕ → List (List ℕ)) (hands : List Hand) (o : NumberObject) (lanes : List (List Numbers)) (sending sending' : ℕ → Sending)
     → ((l : ℕ) → length (queue l) ≤ length (queue' l)) → ((l : ℕ) → Keeps (sending l) (sending' l)) → IsSender queue hands o lanes sending → IsSender queue' hands o lanes sending'
@@ -58,18 +53,6 @@ still_sender queue queue' hands o lanes sending sending' more same s = record {
   held = s.held;
   of_lanes = s.of_lanes;
 }
-
-acked_keeps_as : WindowLaws → (s : Sending) (start : ℕ) (stored : List ℕ) (a : Option Acked) → acked s start stored ≡ a → Keeps s (acked_or a s)
-acked_keeps_as laws s start stored None e = alike s
-acked_keeps_as laws s start stored (Some a) e = laws.acking s start stored a e
-
-either_keeps : (b : Bool) (s t : Sending) → Keeps s t → Keeps s (if b then t else s)
-either_keeps true s t h = h
-either_keeps false s t h = alike s
-
-pub acked_keeps : WindowLaws → (l : ℕ) (ack : Option Ack) (s : Sending) → Keeps s (sending_acked l ack s)
-acked_keeps laws l None s = alike s
-acked_keeps laws l (Some ack) s = either_keeps (at_place ack.lane l) s (acked_or (acked s ack.start ack.stored) s) (acked_keeps_as laws s ack.start ack.stored (acked s ack.start ack.stored) refl)
 
 -- ---- hands that change
 

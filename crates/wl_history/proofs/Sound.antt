@@ -1,21 +1,24 @@
--- What holds of both ends after each legal history, and that each step keeps it.
-use Rattle.std.proofs.Common.{◌≡◌, ℕ, zero, suc, ◌+◌, ◌-◌, ◌≤◌, Bool, true, false, eq-eqb, List, [], ◌∷◌, ◌++◌, length, get_or, Option, Some, None, Result, refl, sym, ap, subst, ◌∙◌, arith, inl, inr, length-append}
-use Rattle.std.specs.Prelude.{◌==◌, ◌&&◌, ◌||◌, if◌then◌else◌}
-use Rattle.std.specs.List.{Contains}
-use Rattle.std.proofs.lemmas.Bool.{both_ways, eqb-true, cases_lt, le-ltb}
+-- What holds of both ends and of the words after each legal history, and that each step keeps it.
+use Rattle.std.proofs.Common.{◌≡◌, ℕ, zero, suc, ◌+◌, ◌<◌, ◌≤◌, Bool, true, false, eq-eqb, List, [], ◌∷◌, ◌++◌, length, get_or, Option, Some, None, Result, refl, sym, ap, subst, ◌∙◌, arith}
+use Rattle.std.specs.Prelude.{◌&&◌, ◌||◌, if◌then◌else◌}
+use Rattle.std.specs.List.{Contains, AllByRecursion}
+use Rattle.std.proofs.lemmas.Bool.{both_ways, le-ltb}
 use Rattle.wl_elem.specs.declared.fault.Refusal.{Refusal}
 use Rattle.wl_elem.specs.declared.lane.EndId.{EndId}
+use Rattle.wl_elem.specs.declared.lane.EndId.TheVariants.{Ap, Sta}
 use Rattle.wl_elem.specs.declared.lane.Lane.{Lane}
 use Rattle.wl_elem.specs.declared.lane.Lane.TheVariants as lanes
-use Rattle.wl_elem.specs.Lanes.{same_end, at_place, peer_of, lane_index, IsLane}
+use Rattle.wl_elem.specs.Lanes.{same_end, at_place, peer_of, lane_index, lane_count, IsLane}
 use Rattle.wl_frame.specs.Frame.{FrameValue}
 use Rattle.wl_frame.specs.Sealing.{Sealing}
 use Rattle.wl_number.specs.declared.numbers.Numbers.{Numbers}
-use Rattle.wl_number.specs.NumberObject.{NumberObject, drawn, opened}
+use Rattle.wl_number.specs.NumberObject.{drawn, opened}
 use Rattle.wl_number.specs.Bookings.{no_bookings}
 use Rattle.wl_number.specs.OrderRule.{Ascending, list_at, list_of}
-use Rattle.wl_window.specs.Originating.{Sending, Keeps, is_booked}
-use Rattle.wl_window.specs.Reordering.{arrived}
+use Rattle.wl_replay.specs.Replay.{is_above, last_of, no_pairs}
+use Rattle.wl_window.specs.Originating.{Sending, Acked, is_booked, booked_count}
+use Rattle.wl_window.specs.Reordering.{Arrived, Old, Doubled, Stored, arrived}
+use Rattle.wl_history.specs.declared.ack.Ack.{Ack}
 use Rattle.wl_history.specs.declared.hand.Hand.{Hand}
 use Rattle.wl_history.specs.declared.hand.Hand.TheVariants as hand
 use Rattle.wl_history.specs.declared.arrival.Arrival.{Arrival}
@@ -23,27 +26,28 @@ use Rattle.wl_history.specs.declared.command.Command.{Command}
 use Rattle.wl_history.specs.declared.command.Command.TheVariants as commands
 use Rattle.wl_history.specs.declared.outcome.Outcome.{Outcome}
 use Rattle.wl_history.specs.declared.outcome.Outcome.TheVariants as outcomes
+use Rattle.wl_history.specs.declared.start.EndStart.{EndStart}
 use Rattle.wl_history.specs.declared.start.Start.{Start}
 use Rattle.wl_history.specs.declared.step.Step.{Step}
-use Rattle.wl_history.specs.Ends.{start_of, receive_size, send_size}
-use Rattle.wl_history.specs.Hands.{hand_of, reserves, bit}
-use Rattle.wl_history.specs.Words.{queued, queue_after, body_at, hands, hands_after, hands_reserved, hands_booked, hands_put, numbers, numbers_after, numbers_booked, booked, booked_after, booked_with, acks, nth_of, sending, sending_after, sending_reserved, sending_numbered, sending_acked, Airing, airings, airings_after, airings_put, Receiving, receiving, receiving_after, received, taken}
-use Rattle.wl_history.specs.Answers.{reserve_answer, book_answer}
-use Rattle.wl_history.specs.Hearing.{Closed, Judged, Answered, ToOpen, judged}
+use Rattle.wl_history.specs.Ends.{IsStart, start_of, receive_size, send_size}
+use Rattle.wl_history.specs.Hands.{hand_of}
+use Rattle.wl_history.specs.Words.{queued, body_at, booked, booked_with, send_key, key_booked, Airing, airings, airings_put, Receiving, receiving, received, taken}
+use Rattle.wl_history.specs.Answers.{reserve_answer, book_answer, put_of, airing_of, aired_octets}
+use Rattle.wl_history.specs.Hearing.{octets_of, Closed, Judged, Answered, ToOpen}
+use Rattle.wl_history.specs.EndState.{EndState, LaneState, IsEnd, lane_at, no_lane, no_lanes, no_frames, started, was_aired_at, with_frame, let_up, with_moved, put_down, after_queue, after_reserve, after_book, after_put, after_arrived, after_hear, after_acked, after_taken, acked_by, arrival_of, after_heard, hear_arrived, hear_answer}
+use Rattle.wl_history.specs.AirState.{AirState, end_of, with_end, with_acks, ack_named, octets_named, begun, after, state_of}
 use Rattle.wl_history.specs.Plain.{IsPlain}
-use Rattle.wl_history.specs.Legal.{IsAnswer, Fits, IsStep, Legal, HeardIf, judged_answer, opened_answer, put_of, newest, frame_named}
-use Rattle.wl_history.specs.Sender.{IsSender, Regranted, has_position}
+use Rattle.wl_history.specs.Legal.{Fits, IsAnswer, Legal, HeardIf, judged_at, judged_answer, opened_answer, booking_found}
+use Rattle.wl_history.specs.Runs.{step_of}
+use Rattle.wl_history.specs.Sender.{has_position}
+use Rattle.wl_history.specs.Stands.{LaneTells, Tells, EndStands}
 use Rattle.wl_history.proofs.Lanes.{same_list, no_member}
-use Rattle.wl_history.proofs.Hands.{count_set}
-use Rattle.wl_history.proofs.Sender.{NumberLaws, WindowLaws, lane_within, still_sender, acked_keeps, emptied, reserving}
-use Rattle.wl_history.proofs.Booking.{booking}
-use Rattle.wl_history.proofs.Growing.{IsBooking, position_queued, booking_queued, booking_booked, AiredWell, Aired, aired_more}
+use Rattle.wl_history.proofs.Sender.{NumberLaws, WindowLaws, lane_within}
+use Rattle.wl_history.proofs.Keeping.{queue_kept, reserve_kept, given_back, booked_so, puts_down, aired_so, hear_kept, ack_kept}
+use Rattle.wl_history.proofs.Telling.{queue_tells, sending_tells, booked_tells, down_tells, framed_tells, moved_tells}
+use Rattle.wl_history.proofs.Growing.{IsBooking, position_queued, contains_within, booking_queued, booking_booked, Aired, aired_still, aired_more}
 use Rattle.wl_history.proofs.Receiving.{Trans, Got, got_taken, got_still}
-use Rattle.wl_history.proofs.Cases.{at_end, reserve_cases, book_cases, put_cases, plain_answer, found_there, receive_cases}
-
--- the words of one end
-abbrev pub SideAt : Start → EndId → List Step → Type 0
-SideAt start e steps = IsSender (λ l. queued e l steps) (hands e steps) (numbers (start_of start e) e steps) (booked e steps) (λ l. sending e l steps)
+use Rattle.wl_history.proofs.Cases.{reserve_cases, book_cases, put_cases, plain_answer, found_there}
 
 abbrev pub AiredAt : EndId → List Step → Type 0
 AiredAt e steps = Aired (λ l. queued e l steps) (booked e steps) (airings e steps)
@@ -55,384 +59,417 @@ IsItem sender l steps item = IsBooking (λ m. queued sender m steps) (booked sen
 abbrev pub GotAt : Start → EndId → ℕ → List Step → Type 0
 GotAt start e l steps = Got (IsItem (peer_of e) l steps) (receiving (start_of start e) e l steps)
 
-pub record Sound (start : Start) (steps : List Step) : Type 0 where
-  pub side : (e : EndId) → SideAt start e steps
+pub record Sound (text : Sealing) (start : Start) (a : AirState) (steps : List Step) : Type 0 where
+  pub ends : (e : EndId) → IsEnd (end_of a e)
+  pub told : (e : EndId) → EndStands text start e (end_of a e) steps
   pub aired : (e : EndId) → AiredAt e steps
   pub got : (e : EndId) (l : ℕ) → GotAt start e l steps
 
 -- ---- the start
 
+-- a list of one value alone
+all_same : {A : Type 0} (xs : List A) (d : A) (l : ℕ) → AllByRecursion (λ x. x ≡ d) xs → get_or xs l d ≡ d
+all_same [] d l h = refl
+all_same (x ∷ xs) d zero h = h.0
+all_same (x ∷ xs) d (suc l) h = all_same xs d l h.1
+
 nothing_at : (place : ℕ) → list_at no_bookings place ≡ []
-nothing_at zero = refl
-nothing_at (suc zero) = refl
-nothing_at (suc (suc zero)) = refl
-nothing_at (suc (suc (suc zero))) = refl
-nothing_at (suc (suc (suc (suc zero)))) = refl
-nothing_at (suc (suc (suc (suc (suc zero))))) = refl
-nothing_at (suc (suc (suc (suc (suc (suc zero)))))) = refl
-nothing_at (suc (suc (suc (suc (suc (suc (suc zero))))))) = refl
-nothing_at (suc (suc (suc (suc (suc (suc (suc (suc zero)))))))) = refl
-nothing_at (suc (suc (suc (suc (suc (suc (suc (suc (suc n))))))))) = refl
+nothing_at place = all_same no_bookings [] place (refl, (refl, (refl, (refl, (refl, (refl, (refl, (refl, (refl, tt)))))))))
+
+no_lane_at : (l : ℕ) → get_or no_lanes l no_lane ≡ no_lane
+no_lane_at l = all_same no_lanes no_lane l (refl, (refl, (refl, (refl, (refl, (refl, (refl, (refl, (refl, tt)))))))))
 
 none_there : (place : ℕ) (n : Numbers) → Contains (list_at no_bookings place) n → ⊥
 none_there place n is = no_member n (subst (λ (l : List Numbers). Contains l n) (nothing_at place) is)
 
-zero_at : (key pn place : ℕ) → get_or (opened key pn).positions place 0 ≡ 0
-zero_at key pn zero = refl
-zero_at key pn (suc zero) = refl
-zero_at key pn (suc (suc zero)) = refl
-zero_at key pn (suc (suc (suc zero))) = refl
-zero_at key pn (suc (suc (suc (suc zero)))) = refl
-zero_at key pn (suc (suc (suc (suc (suc zero))))) = refl
-zero_at key pn (suc (suc (suc (suc (suc (suc zero)))))) = refl
-zero_at key pn (suc (suc (suc (suc (suc (suc (suc zero))))))) = refl
-zero_at key pn (suc (suc (suc (suc (suc (suc (suc (suc zero)))))))) = refl
-zero_at key pn (suc (suc (suc (suc (suc (suc (suc (suc (suc n))))))))) = refl
-
 none_marked : (pos : ℕ) → is_booked (let s : Sending = record { granted = 0; base = 0; marks = [] } in s) pos ≡ false
 none_marked pos = ap (λ (b : Bool). b || false) (le-ltb pos 0 (omega arith))
 
-side_start : (start : Start) (e : EndId) → SideAt start e []
-side_start start e = record {
+no_position : (key pn l : ℕ) → get_or (opened key pn).positions l 0 ≡ 0
+no_position key pn l = all_same (opened key pn).positions 0 l (refl, (refl, (refl, (refl, (refl, (refl, (refl, (refl, (refl, tt)))))))))
+
+pub started_end : (start : EndStart) → IsEnd (started start)
+started_end start = record {
   nine = refl;
-  nine_positions = refl;
-  rule = record {
-    ascending = λ place. subst (λ (l : List Numbers). Ascending l) (sym (nothing_at place)) tt;
-    apart = λ place other a b ne is. absurd (none_there place a is);
+  nine_pairs = refl;
+  fifteen = refl;
+  short = λ l pos. subst (λ (x : LaneState). length (body_at x.queue pos) ≤ 2304) (sym (no_lane_at l)) (omega arith);
+  sender = record {
+    nine = refl;
+    nine_positions = refl;
+    rule = record {
+      ascending = λ place. subst (λ (l : List Numbers). Ascending l) (sym (nothing_at place)) tt;
+      apart = λ place other a b ne is. absurd (none_there place a is);
+    };
+    last = λ place n is. absurd (none_there place n is);
+    position = λ l. no_position start.first_key start.first_pn l ∙ ap (λ (ns : List Numbers). length ns) (sym (nothing_at l));
+    lower = λ l n is. absurd (none_there l n is);
+    marked = λ l pos. ap (λ (x : LaneState). is_booked x.sending pos) (no_lane_at l) ∙ none_marked pos ∙ ap (has_position pos) (sym (nothing_at l));
+    numbered = λ l. ap (λ (x : LaneState). booked_count x.sending) (no_lane_at l) ∙ ap (λ (ns : List Numbers). length ns) (sym (nothing_at l));
+    counted = λ l. ap (λ (x : LaneState). x.sending.granted) (no_lane_at l) ∙ ap (λ (ns : List Numbers). 0 + length ns) (sym (nothing_at l));
+    within = λ l. subst (λ (x : LaneState). x.sending.granted ≤ length x.queue) (sym (no_lane_at l)) (omega arith);
+    held = λ thread lane n is. absurd (cc is);
+    of_lanes = λ thread lane is. absurd (cc is);
   };
-  last = λ place n is. absurd (none_there place n is);
-  position = λ l. zero_at (start_of start e).first_key (start_of start e).first_pn l ∙ ap (λ (ns : List Numbers). length ns) (sym (nothing_at l));
-  lower = λ l n is. absurd (none_there l n is);
-  marked = λ l pos. none_marked pos ∙ ap (has_position pos) (sym (nothing_at l));
-  numbered = λ l. ap (λ (ns : List Numbers). length ns) (sym (nothing_at l));
-  counted = λ l. ap (λ (ns : List Numbers). 0 + length ns) (sym (nothing_at l));
-  within = λ l. omega arith;
-  held = λ thread lane n is. absurd (cc is);
-  of_lanes = λ thread lane is. absurd (cc is);
 }
 
-pub sound_start : (start : Start) → Sound start []
-sound_start start = record {
-  side = side_start start;
+started_told : (text : Sealing) (start : Start) (e : EndId) → EndStands text start e (started (start_of start e)) []
+started_told text start e = record {
+  start_is = refl;
+  newest_is = refl;
+  key_is = refl;
+  lanes = λ l lt. subst (λ (lane : LaneState). LaneTells l lane [] (receiving (start_of start e) e l []) []) (sym (no_lane_at l)) (record { queue_is = refl; window = refl; released = refl; flags = λ pos. refl });
+  booked_are = refl;
+  last = λ l lt. all_same no_pairs None l (refl, (refl, (refl, (refl, (refl, (refl, (refl, (refl, (refl, tt)))))))));
+  frames = λ link lt. all_same no_frames [] link (refl, (refl, (refl, (refl, (refl, (refl, (refl, (refl, (refl, (refl, (refl, (refl, (refl, (refl, (refl, tt)))))))))))))));
+}
+
+pub sound_start : (text : Sealing) (start : Start) → Sound text start (begun start) []
+sound_start text start = record {
+  ends = λ e. elim e as (λ (x : EndId). IsEnd (end_of (begun start) x)) [ Ap ↦ started_end start.ap | Sta ↦ started_end start.sta ];
+  told = λ e. elim e as (λ (x : EndId). EndStands text start x (end_of (begun start) x) []) [ Ap ↦ started_told text start Ap | Sta ↦ started_told text start Sta ];
   aired = λ e a is. absurd (no_member a is);
   got = λ e lane. record { stored = tt; released_good = tt; rising = tt };
 }
 
--- ---- the sending side of a step
+-- ---- a step
 
-module _ (laws : NumberLaws) (windows : WindowLaws) (trans : Trans) (text : Sealing) (start : Start) (before : List Step) (sound : Sound start before) where
-  abbrev Words : EndId → List Hand → NumberObject → List (List Numbers) → (ℕ → Sending) → Type 0
-  Words e hands o lanes sending = IsSender (λ l. queued e l before) hands o lanes sending
+own_end : (start : Start) → IsStart start → (e : EndId) → (start_of start e).end ≡ e
+own_end start is Ap = is.ap_end
+own_end start is Sta = is.sta_end
 
-  if_more : (b : Bool) (s : Sending) → (if b then sending_reserved outcomes.Reserved s else s).granted ≡ s.granted + bit b
-  if_more true s = refl
-  if_more false s = omega arith
+module _ (laws : NumberLaws) (windows : WindowLaws) (trans : Trans) (text : Sealing) (start : Start) (is_start : IsStart start) (a : AirState) (before : List Step) (sound : Sound text start a before) where
+  -- the end that acts is the one that is looked at, or another
+  by_end : (P : EndId → EndId → Bool → EndState → Type 0) (f : EndId → EndState) → ((x : EndId) → P x x true (f x)) → ((x y : EndId) → P x y false (end_of a y)) → (end e : EndId) → P end e (same_end end e) (end_of (with_end end (f end) a) e)
+  by_end P f same other Ap Ap = same Ap
+  by_end P f same other Ap Sta = other Ap Sta
+  by_end P f same other Sta Ap = other Sta Ap
+  by_end P f same other Sta Sta = same Sta
 
-  if_less : (b : Bool) (s : Sending) → bit b ≤ s.granted → (if b then (let x : Sending = record { granted = s.granted - 1; base = s.base; marks = s.marks } in x) else s).granted + bit b ≡ s.granted
-  if_less true s le = omega (arith, le)
-  if_less false s le = omega arith
+  -- the words of the end, with others for some
+  abbrev Told : EndId → EndState → (ℕ → List (List ℕ)) → List (List Numbers) → List Airing → (ℕ → Receiving) → ℕ → Type 0
+  Told e s queue bookings aired got key = Tells text (start_of start e) e s queue bookings aired got key
 
-  -- the same window, but for what it granted
-  if_regranted : (b : Bool) (granted : ℕ) (s : Sending) → Regranted s (if b then (let x : Sending = record { granted = granted; base = s.base; marks = s.marks } in x) else s)
-  if_regranted true granted s = record { base = refl; marks = refl }
-  if_regranted false granted s = record { base = refl; marks = refl }
+  abbrev queues : EndId → ℕ → List (List ℕ)
+  queues e l = queued e l before
 
-  if_keeps : (b : Bool) (s t : Sending) → Keeps s t → Keeps s (if b then t else s)
-  if_keeps true s t h = h
-  if_keeps false s t h = record { granted = refl; marks = λ pos. refl; counts = refl }
+  abbrev gots : EndId → ℕ → Receiving
+  gots e l = receiving (start_of start e) e l before
 
-  itself : (s : Sending) → Keeps s s
-  itself s = record { granted = refl; marks = λ pos. refl; counts = refl }
+  abbrev key_of : EndId → ℕ
+  key_of e = send_key (start_of start e) e before
 
-  -- the lane whose granted rises has room in its queue
-  room : (b : Bool) (granted queued : ℕ) → (b ≡ true → (granted == queued) ≡ false) → granted ≤ queued → granted + bit b ≤ queued
-  room true granted queued ne le = elim (cases_lt granted queued) [ inl lt ↦ omega (arith, lt) | inr ge ↦ absurd (both_ways (granted == queued) (ne refl) (eq-eqb granted queued (omega (arith, ge, le)))) ]
-  room false granted queued ne le = omega (arith, le)
+  abbrev Still : EndId → EndState → Type 0
+  Still e s = Told e s (queues e) (booked e before) (airings e before) (gots e) (key_of e)
 
-  abbrev SideThen : EndId → ℕ → Command → Outcome → Type 0
-  SideThen e thread command outcome =
-      IsSender (λ l. queue_after e l command (queued e l before)) (hands_after e thread command outcome (hands e before)) (numbers_after e command outcome (numbers (start_of start e) e before))
-      (booked_after e command outcome (booked e before)) (λ l. sending_after e l command outcome (acks (peer_of e) before) (sending e l before))
+  -- what is booked on a lane is of a queued body
+  word_queued : (e : EndId) (l : ℕ) (n : Numbers) → Contains (list_at (end_of a e).booked l) n → n.pos < length (queued e l before)
+  word_queued e l n there =
+      let s = end_of a e in
+      let lt : l < lane_count = omega (arith, contains_within s.booked l n there, (sound.ends e).sender.nine) in
+      let pos = position_queued (λ m. (lane_at s m).queue) s.hands s.numbers s.booked (λ m. (lane_at s m).sending) (sound.ends e).sender l n there in
+      omega (arith, pos, ap (λ (q : List (List ℕ)). length q) ((sound.told e).lanes l lt).queue_is)
 
-  abbrev ReserveThen : ℕ → Lane → Outcome → EndId → EndId → Bool → Type 0
-  ReserveThen thread lane outcome end e b =
-      outcome ≡ reserve_answer (hand_of (hands end before) thread) (length (queued end (lane_index lane) before)) (sending end (lane_index lane) before) (send_size (start_of start end) (lane_index lane))
-      → Words e (if b then hands_reserved thread lane outcome (hands e before) else hands e before) (numbers (start_of start e) e before) (booked e before)
-      (λ l. if b && at_place lane l then sending_reserved outcome (sending e l before) else sending e l before)
-
-  abbrev ReservedAs : ℕ → Lane → EndId → Outcome → Type 0
-  ReservedAs thread lane e outcome =
-      Words e (hands_reserved thread lane outcome (hands e before)) (numbers (start_of start e) e before) (booked e before)
-      (λ l. if at_place lane l then sending_reserved outcome (sending e l before) else sending e l before)
-
-  not_reserved : (thread : ℕ) (lane : Lane) (e : EndId) → Words e (hands e before) (numbers (start_of start e) e before) (booked e before) (λ l. if at_place lane l then sending e l before else sending e l before)
-  not_reserved thread lane e =
-      still_sender (λ l. queued e l before) (λ l. queued e l before) (hands e before) (numbers (start_of start e) e before) (booked e before) (λ l. sending e l before)
-      (λ l. if at_place lane l then sending e l before else sending e l before) (λ l. omega arith) (λ l. if_keeps (at_place lane l) (sending e l before) (sending e l before) (itself (sending e l before))) (sound.side e)
-
-  same_room : (lane : Lane) (l : ℕ) (e : EndId) → ((sending e (lane_index lane) before).granted == length (queued e (lane_index lane) before)) ≡ false → at_place lane l ≡ true → ((sending e l before).granted == length (queued e l before)) ≡ false
-  same_room lane l e ne same = subst (λ (m : ℕ). ((sending e m before).granted == length (queued e m before)) ≡ false) (eqb-true (lane_index lane) l same) ne
-
-  reserved : (thread : ℕ) (lane : Lane) (e : EndId) → IsLane lane → hand_of (hands e before) thread ≡ hand.Empty → ((sending e (lane_index lane) before).granted == length (queued e (lane_index lane) before)) ≡ false → ReservedAs thread lane e outcomes.Reserved
-  reserved thread lane e is_lane empty ne =
-      reserving thread lane (λ l. queued e l before) (hands e before) (numbers (start_of start e) e before) (booked e before) (λ l. sending e l before)
-      (λ l. if at_place lane l then sending_reserved outcomes.Reserved (sending e l before) else sending e l before) is_lane empty
-      (λ l. if_regranted (at_place lane l) ((sending e l before).granted + 1) (sending e l before))
-      (λ l. if_more (at_place lane l) (sending e l before))
-      (λ l. let more = if_more (at_place lane l) (sending e l before) in
-      let le = room (at_place lane l) (sending e l before).granted (length (queued e l before)) (same_room lane l e ne) ((sound.side e).within l) in omega (arith, more, le))
-      (sound.side e)
-
-  pub side_reserve : (thread : ℕ) (lane : Lane) (outcome : Outcome) → IsLane lane → (end e : EndId) → ReserveThen thread lane outcome end e (same_end end e)
-  side_reserve thread lane outcome is_lane =
-      at_end (ReserveThen thread lane outcome)
-      (λ e is. subst (ReservedAs thread lane e) (sym is)
-      (reserve_cases (ReservedAs thread lane e) (hand_of (hands e before) thread) (length (queued e (lane_index lane) before)) (sending e (lane_index lane) before) (send_size (start_of start e) (lane_index lane))
-      (not_reserved thread lane e) (not_reserved thread lane e) (not_reserved thread lane e) (reserved thread lane e is_lane)))
-      (λ end e is. sound.side e)
-
-  -- ---- a booking
-
-  abbrev BookThen : ℕ → Outcome → EndId → EndId → Bool → Type 0
-  BookThen thread outcome end e b =
-      outcome ≡ book_answer (hand_of (hands end before) thread) (numbers (start_of start end) end before)
-      → Words e (if b then hands_booked thread outcome (hands e before) else hands e before)
-      (if b then numbers_booked outcome (numbers (start_of start e) e before) else numbers (start_of start e) e before)
-      (if b then booked_with outcome (booked e before) else booked e before)
-      (λ l. if b then sending_numbered l outcome (sending e l before) else sending e l before)
-
-  abbrev BookedAs : ℕ → EndId → Outcome → Type 0
-  BookedAs thread e outcome =
-      Words e (hands_booked thread outcome (hands e before)) (numbers_booked outcome (numbers (start_of start e) e before)) (booked_with outcome (booked e before))
-      (λ l. sending_numbered l outcome (sending e l before))
-
-  -- a reserve counts among those granted
-  counts : (thread : ℕ) (lane : Lane) (e : EndId) (l : ℕ) → hand_of (hands e before) thread ≡ hand.Reserve lane → bit (at_place lane l) ≤ (sending e l before).granted
-  counts thread lane e l held =
-      omega (arith, (sound.side e).counted l, count_set l thread hand.Empty (hands e before), ap (λ (h : Hand). bit (reserves l h)) held)
-
-  spent : (thread : ℕ) (e : EndId) (lane : Lane) → hand_of (hands e before) thread ≡ hand.Reserve lane → BookedAs thread e (outcomes.Spent lane)
-  spent thread e lane held =
-      emptied thread (λ l. queued e l before) (hands e before) (numbers (start_of start e) e before) (booked e before) (λ l. sending e l before)
-      (λ l. sending_numbered l (outcomes.Spent lane) (sending e l before))
-      (λ l. if_regranted (at_place lane l) ((sending e l before).granted - 1) (sending e l before))
-      (λ l. let was = ap (λ (h : Hand). bit (reserves l h)) held in
-      let less = if_less (at_place lane l) (sending e l before) (counts thread lane e l held) in
-      omega (arith, was, less))
-      (sound.side e)
-
-  number_it : (thread : ℕ) (e : EndId) (lane : Lane) → hand_of (hands e before) thread ≡ hand.Reserve lane → BookedAs thread e (outcomes.Booked lane (drawn (numbers (start_of start e) e before) lane))
-  number_it thread e lane held =
-      let n : Numbers = drawn (numbers (start_of start e) e before) lane in
-      booking laws windows thread lane (λ l. queued e l before) (hands e before) (numbers (start_of start e) e before) (booked e before) (λ l. sending e l before)
-      (λ l. sending_numbered l (outcomes.Booked lane n) (sending e l before)) held (λ l. refl) (sound.side e)
-
-  pub side_book : (thread : ℕ) (outcome : Outcome) (end e : EndId) → BookThen thread outcome end e (same_end end e)
-  side_book thread outcome =
-      at_end (BookThen thread outcome)
-      (λ e is. subst (BookedAs thread e) (sym is)
-      (book_cases (BookedAs thread e) (hand_of (hands e before) thread) (numbers (start_of start e) e before) (sound.side e) (spent thread e) (number_it thread e)))
-      (λ end e is. sound.side e)
-
-  -- ---- a put
-
-  put_down : (thread : ℕ) (e : EndId) (h : Hand) → hand_of (hands e before) thread ≡ h
-      → Words e (hands_put thread h (hands e before)) (numbers (start_of start e) e before) (booked e before) (λ l. sending e l before)
-  put_down thread e hand.Empty is = sound.side e
-  put_down thread e (hand.Reserve lane) is = sound.side e
-  put_down thread e (hand.Booking lane n) is =
-      emptied thread (λ l. queued e l before) (hands e before) (numbers (start_of start e) e before) (booked e before) (λ l. sending e l before) (λ l. sending e l before)
-      (λ l. record { base = refl; marks = refl })
-      (λ l. let was = ap (λ (h : Hand). bit (reserves l h)) is in omega (arith, was)) (sound.side e)
-
-  side_put : (thread : ℕ) (e : EndId) (b : Bool)
-      → Words e (if b then hands_put thread (hand_of (hands e before) thread) (hands e before) else hands e before) (numbers (start_of start e) e before) (booked e before) (λ l. sending e l before)
-  side_put thread e true = put_down thread e (hand_of (hands e before) thread) refl
-  side_put thread e false = sound.side e
-
-  -- ---- an acknowledgement
-
-  side_ack : (e : EndId) (b : Bool) (nth : Option ℕ)
-      → Words e (hands e before) (numbers (start_of start e) e before) (booked e before)
-      (λ l. if b then sending_acked l (nth_of nth (acks (peer_of e) before)) (sending e l before) else sending e l before)
-  side_ack e true nth =
-      still_sender (λ l. queued e l before) (λ l. queued e l before) (hands e before) (numbers (start_of start e) e before) (booked e before) (λ l. sending e l before)
-      (λ l. sending_acked l (nth_of nth (acks (peer_of e) before)) (sending e l before)) (λ l. omega arith)
-      (λ l. acked_keeps windows l (nth_of nth (acks (peer_of e) before)) (sending e l before)) (sound.side e)
-  side_ack e false nth = sound.side e
-
-  longer : (b : Bool) (xs : List (List ℕ)) (body : List ℕ) → length xs ≤ length (if b then xs ++ body ∷ [] else xs)
-  longer true xs body = omega (arith, length-append xs (body ∷ []))
-  longer false xs body = omega arith
-
-  pub side_then : (thread : ℕ) (command : Command) (outcome : Outcome) → Fits start command → IsAnswer text start before thread command outcome → (e : EndId) → SideThen e thread command outcome
-  side_then thread (commands.Queue end tid body) outcome fits is e =
-      still_sender (λ l. queued e l before) (λ l. if same_end end e && at_place (lanes.Tid tid) l then queued e l before ++ body ∷ [] else queued e l before) (hands e before) (numbers (start_of start e) e before) (booked e before) (λ l. sending e l before) (λ l. sending e l before)
-      (λ l. longer (same_end end e && at_place (lanes.Tid tid) l) (queued e l before) body) (λ l. itself (sending e l before)) (sound.side e)
-  side_then thread (commands.Reserve end lane) outcome fits is e = side_reserve thread lane outcome fits end e is
-  side_then thread (commands.Book end) outcome fits is e = side_book thread outcome end e is
-  side_then thread (commands.Put end link) outcome fits is e = side_put thread e (same_end end e)
-  side_then thread (commands.Deliver end link nth) outcome fits is e = sound.side e
-  side_then thread (commands.AckOut end lane) outcome fits is e = sound.side e
-  side_then thread (commands.AckIn end nth) outcome fits is e = side_ack e (same_end end e) nth
-
-  -- ---- what bookings become
-
-  abbrev BookingThen : ℕ → Outcome → EndId → EndId → Bool → Type 0
-  BookingThen thread outcome end e b =
-      outcome ≡ book_answer (hand_of (hands end before) thread) (numbers (start_of start end) end before)
-      → (l : ℕ) (n : Numbers) (body : List ℕ) → IsBooking (λ m. queued e m before) (booked e before) l n body
-      → IsBooking (λ m. queued e m before) (if b then booked_with outcome (booked e before) else booked e before) l n body
-
-  abbrev BookingAs : EndId → Outcome → Type 0
-  BookingAs e outcome = (l : ℕ) (n : Numbers) (body : List ℕ) → IsBooking (λ m. queued e m before) (booked e before) l n body → IsBooking (λ m. queued e m before) (booked_with outcome (booked e before)) l n body
-
-  kept_book : (thread : ℕ) (outcome : Outcome) (end e : EndId) → BookingThen thread outcome end e (same_end end e)
-  kept_book thread outcome =
-      at_end (BookingThen thread outcome)
-      (λ e is. subst (BookingAs e) (sym is)
-      (book_cases (BookingAs e) (hand_of (hands e before) thread) (numbers (start_of start e) e before) (λ l n body b. b) (λ lane held l n body b. b)
-      (λ lane held. booking_booked (λ m. queued e m before) (booked e before) lane (drawn (numbers (start_of start e) e before) lane)
-      (let lt = lane_within lane ((sound.side e).of_lanes thread lane held) in omega (arith, lt, (sound.side e).nine)))))
-      (λ end e is l n body b. b)
-
-  -- a booking stays one, with its body
-  pub booking_then : (thread : ℕ) (command : Command) (outcome : Outcome) → IsAnswer text start before thread command outcome → (e : EndId) (l : ℕ) (n : Numbers) (body : List ℕ)
-      → IsBooking (λ m. queued e m before) (booked e before) l n body → IsBooking (λ m. queue_after e m command (queued e m before)) (booked_after e command outcome (booked e before)) l n body
-  booking_then thread (commands.Queue end tid more) outcome is e l n body b = booking_queued (λ m. same_end end e && at_place (lanes.Tid tid) m) more (λ m. queued e m before) (booked e before) l n body b
-  booking_then thread (commands.Reserve end lane) outcome is e l n body b = b
-  booking_then thread (commands.Book end) outcome is e l n body b = kept_book thread outcome end e is l n body b
-  booking_then thread (commands.Put end link) outcome is e l n body b = b
-  booking_then thread (commands.Deliver end link nth) outcome is e l n body b = b
-  booking_then thread (commands.AckOut end lane) outcome is e l n body b = b
-  booking_then thread (commands.AckIn end nth) outcome is e l n body b = b
-
-  -- ---- what is aired
-
-  abbrev PutThen : ℕ → ℕ → Outcome → EndId → EndId → Bool → Type 0
-  PutThen thread link outcome end e b =
-      outcome ≡ put_of (start_of start end) end before link (hand_of (hands end before) thread)
-      → Aired (λ l. queued e l before) (booked e before) (if b then airings_put e before link outcome (airings e before) else airings e before)
-
-  abbrev PutAs : ℕ → EndId → Outcome → Type 0
-  PutAs link e outcome = Aired (λ l. queued e l before) (booked e before) (airings_put e before link outcome (airings e before))
-
-  put_held : (thread link : ℕ) (e : EndId) (h : Hand) → hand_of (hands e before) thread ≡ h → PutAs link e (put_of (start_of start e) e before link h)
-  put_held thread link e hand.Empty is = sound.aired e
-  put_held thread link e (hand.Reserve lane) is = sound.aired e
-  put_held thread link e (hand.Booking lane n) is =
-      let held = (sound.side e).held thread lane n is in
-      put_cases (PutAs link e) lane n _ _ _ (sound.aired e) (sound.aired e)
-      (λ up. aired_more (λ l. queued e l before) (booked e before) (airings e before) _
-      (record {
-        booking = record {
-          booked = held.0;
-          within = position_queued (λ l. queued e l before) (hands e before) (numbers (start_of start e) e before) (booked e before) (λ l. sending e l before) (sound.side e) (lane_index lane) n held.0;
-          same = refl;
-        };
-        of_lane = held.1;
-      })
-      (sound.aired e))
-
-  aired_put : (thread link : ℕ) (outcome : Outcome) (end e : EndId) → PutThen thread link outcome end e (same_end end e)
-  aired_put thread link outcome =
-      at_end (PutThen thread link outcome)
-      (λ e is. subst (PutAs link e) (sym is) (put_held thread link e (hand_of (hands e before) thread) refl))
-      (λ end e is. sound.aired e)
-
-  still_aired : (thread : ℕ) (command : Command) (outcome : Outcome) → IsAnswer text start before thread command outcome → (e : EndId) (a : Airing) → AiredWell (λ l. queued e l before) (booked e before) a
-      → AiredWell (λ l. queue_after e l command (queued e l before)) (booked_after e command outcome (booked e before)) a
-  still_aired thread command outcome is e a well = record { booking = booking_then thread command outcome is e (lane_index a.lane) a.numbers a.body well.booking; of_lane = well.of_lane }
-
-  pub aired_then : (thread : ℕ) (command : Command) (outcome : Outcome) → IsAnswer text start before thread command outcome → (e : EndId)
-      → Aired (λ l. queue_after e l command (queued e l before)) (booked_after e command outcome (booked e before)) (airings_after e before command outcome (airings e before))
-  aired_then thread (commands.Queue end tid more) outcome is e = λ a there. still_aired thread (commands.Queue end tid more) outcome is e a (sound.aired e a there)
-  aired_then thread (commands.Reserve end lane) outcome is e = sound.aired e
-  aired_then thread (commands.Book end) outcome is e = λ a there. still_aired thread (commands.Book end) outcome is e a (sound.aired e a there)
-  aired_then thread (commands.Put end link) outcome is e = aired_put thread link outcome end e is
-  aired_then thread (commands.Deliver end link nth) outcome is e = sound.aired e
-  aired_then thread (commands.AckOut end lane) outcome is e = sound.aired e
-  aired_then thread (commands.AckIn end nth) outcome is e = sound.aired e
-
-  -- ---- what is received
-
-  -- what is stored in a step is a booking of its sender
-  abbrev StoredBooked : EndId → Outcome → Type 0
-  StoredBooked e (outcomes.Stored lane number n up) = Contains (list_of (booked (peer_of e) before) lane) n
-  StoredBooked e other = Unit {0}
-
-  none_stored : (e : EndId) (outcome : Outcome) → IsPlain outcome → StoredBooked e outcome
-  none_stored e (outcomes.Stored lane number n up) none = absurd none
-  none_stored e other none = tt
-
-  opened_stored : (e : EndId) (c : Closed) (found : Option Numbers) → ((n : Numbers) → found ≡ Some n → Contains (list_of (booked (peer_of e) before) c.lane) n) → StoredBooked e (opened_answer (start_of start e) e before c found)
-  opened_stored e c None there = tt
-  opened_stored e c (Some n) there = receive_cases (StoredBooked e) c.lane c.number _ _ _ tt tt tt (λ up. there n refl)
-
-  judged_stored : (e : EndId) (link : ℕ) (reading : Result FrameValue Refusal) (j : Judged) → judged (start_of start e) e (newest (start_of start e) before) link reading ≡ j → StoredBooked e (judged_answer text (start_of start e) e before j)
-  judged_stored e link reading (Answered outcome) is = none_stored e outcome (plain_answer (start_of start e) e _ link reading outcome is)
-  judged_stored e link reading (ToOpen c) is = opened_stored e c _ (found_there text (start_of start e) e c (queued (peer_of e) (lane_index c.lane) before) (list_of (booked (peer_of e) before) c.lane))
-
-  heard_stored : (e : EndId) (link : ℕ) (a : Option Airing) (outcome : Outcome) → HeardIf text (start_of start e) e before link a outcome → StoredBooked e outcome
-  heard_stored e link None outcome is = subst (StoredBooked e) (sym is) tt
-  heard_stored e link (Some a) outcome (reading, read, is) = subst (StoredBooked e) (sym is) (judged_stored e link reading (judged (start_of start e) e (newest (start_of start e) before) link reading) refl)
-
-  got_stored : (e : EndId) (l : ℕ) (lane : Lane) (number : ℕ) (n : Numbers) → Contains (list_of (booked (peer_of e) before) lane) n → (b : Bool) → at_place lane l ≡ b
-      → Got (IsItem (peer_of e) l before) (if b then taken (arrived (receiving (start_of start e) e l before).window number (receive_size (start_of start e) l) (record { numbers = n; body = body_at (queued (peer_of e) l before) n.pos })) (receiving (start_of start e) e l before) else receiving (start_of start e) e l before)
-  got_stored e l lane number n there true is =
-      let here : Contains (list_at (booked (peer_of e) before) l) n = subst (λ (ns : List Numbers). Contains ns n) (same_list (booked (peer_of e) before) lane l is) there in
-      got_taken (IsItem (peer_of e) l before) trans (receiving (start_of start e) e l before) number (receive_size (start_of start e) l) (record { numbers = n; body = body_at (queued (peer_of e) l before) n.pos })
-      (record {
-        booked = here;
-        within = position_queued (λ m. queued (peer_of e) m before) (hands (peer_of e) before) (numbers (start_of start (peer_of e)) (peer_of e) before) (booked (peer_of e) before) (λ m. sending (peer_of e) m before) (sound.side (peer_of e)) l n here;
-        same = refl;
-      })
-      (sound.got e l)
-  got_stored e l lane number n there false is = sound.got e l
-
-  got_received : (e : EndId) (l : ℕ) (outcome : Outcome) → StoredBooked e outcome → Got (IsItem (peer_of e) l before) (received (start_of start e) e l before outcome (receiving (start_of start e) e l before))
-  got_received e l (outcomes.Stored lane number n up) there = got_stored e l lane number n there (at_place lane l) refl
-  got_received e l other there = sound.got e l
-
-  abbrev HeardThen : ℕ → Option ℕ → Outcome → EndId → EndId → Bool → Type 0
-  HeardThen link nth outcome end e b =
-      HeardIf text (start_of start end) end before link (frame_named end before link nth) outcome
-      → (l : ℕ) → Got (IsItem (peer_of e) l before) (if b then received (start_of start e) e l before outcome (receiving (start_of start e) e l before) else receiving (start_of start e) e l before)
-
-  got_heard : (link : ℕ) (nth : Option ℕ) (outcome : Outcome) (end e : EndId) → HeardThen link nth outcome end e (same_end end e)
-  got_heard link nth outcome =
-      at_end (HeardThen link nth outcome)
-      (λ e is l. got_received e l outcome (heard_stored e link (frame_named e before link nth) outcome is))
-      (λ end e is l. sound.got e l)
-
-  abbrev GotThen : EndId → ℕ → Command → Outcome → Type 0
-  GotThen e l command outcome =
-      Got (λ item. IsBooking (λ m. queue_after (peer_of e) m command (queued (peer_of e) m before)) (booked_after (peer_of e) command outcome (booked (peer_of e) before)) l item.numbers item.body)
-      (receiving_after (start_of start e) e l before command outcome (receiving (start_of start e) e l before))
-
-  still_got : (thread : ℕ) (command : Command) (outcome : Outcome) → IsAnswer text start before thread command outcome → (e : EndId) (l : ℕ) (r : Receiving) → Got (IsItem (peer_of e) l before) r
-      → Got (λ item. IsBooking (λ m. queue_after (peer_of e) m command (queued (peer_of e) m before)) (booked_after (peer_of e) command outcome (booked (peer_of e) before)) l item.numbers item.body) r
-  still_got thread command outcome is e l r got =
-      got_still (IsItem (peer_of e) l before) (λ item. IsBooking (λ m. queue_after (peer_of e) m command (queued (peer_of e) m before)) (booked_after (peer_of e) command outcome (booked (peer_of e) before)) l item.numbers item.body)
-      (λ item b. booking_then thread command outcome is (peer_of e) l item.numbers item.body b) r got
-
-  pub got_then : (thread : ℕ) (command : Command) (outcome : Outcome) → IsAnswer text start before thread command outcome → (e : EndId) (l : ℕ) → GotThen e l command outcome
-  got_then thread (commands.Queue end tid more) outcome is e l = still_got thread (commands.Queue end tid more) outcome is e l (receiving (start_of start e) e l before) (sound.got e l)
-  got_then thread (commands.Reserve end lane) outcome is e l = sound.got e l
-  got_then thread (commands.Book end) outcome is e l = still_got thread (commands.Book end) outcome is e l (receiving (start_of start e) e l before) (sound.got e l)
-  got_then thread (commands.Put end link) outcome is e l = sound.got e l
-  got_then thread (commands.Deliver end link nth) outcome is e l = got_heard link nth outcome end e is l
-  got_then thread (commands.AckOut end lane) outcome is e l = sound.got e l
-  got_then thread (commands.AckIn end nth) outcome is e l = sound.got e l
-
-  pub sound_step : (step : Step) → IsStep text start before step → Sound start (step ∷ before)
-  sound_step step is = record {
-    side = side_then step.thread step.command step.outcome is.fits is.answer;
-    aired = aired_then step.thread step.command step.outcome is.answer;
-    got = got_then step.thread step.command step.outcome is.answer;
+  -- and its body is the one queued there
+  booking_is : (e : EndId) (l : ℕ) (n : Numbers) → Contains (list_at (end_of a e).booked l) n → IsBooking (queues e) (booked e before) l n (body_at (queued e l before) n.pos)
+  booking_is e l n there = record {
+    booked = subst (λ (bs : List (List Numbers)). Contains (list_at bs l) n) (sound.told e).booked_are there;
+    within = word_queued e l n there;
+    same = refl;
   }
 
+  -- ---- queue
+
+  module _ (thread : ℕ) (end : EndId) (tid : ℕ) (body : List ℕ) (outcome : Outcome) where
+    abbrev queue_step : Step
+    queue_step = step_of thread (commands.Queue end tid body) outcome
+
+    queue_still : (e : EndId) (l : ℕ) (n : Numbers) (at : List ℕ) → IsBooking (queues e) (booked e before) l n at → IsBooking (λ m. queued e m (queue_step ∷ before)) (booked e before) l n at
+    queue_still e l n at b = booking_queued (λ m. same_end end e && at_place (lanes.Tid tid) m) body (queues e) (booked e before) l n at b
+
+    sound_queue : Fits start (commands.Queue end tid body) → Sound text start (after text thread (commands.Queue end tid body) outcome a) (step_of thread (commands.Queue end tid body) outcome ∷ before)
+    sound_queue fits = record {
+      ends = by_end (λ end e b s. IsEnd s) (λ x. after_queue tid body (end_of a x)) (λ x. queue_kept (end_of a x) tid body (sound.ends x) fits.2) (λ x y. sound.ends y) end;
+      told = by_end (λ end e b s. Told e s (λ l. if b && at_place (lanes.Tid tid) l then queues e l ++ body ∷ [] else queues e l) (booked e before) (airings e before) (gots e) (key_of e)) (λ x. after_queue tid body (end_of a x))
+          (λ x. queue_tells text (start_of start x) x (end_of a x) (queues x) (booked x before) (airings x before) (gots x) (key_of x) (sound.ends x) (sound.told x) tid body) (λ x y. sound.told y) end;
+      aired = λ e. aired_still (queues e) (λ l. queued e l (queue_step ∷ before)) (booked e before) (booked e before) (airings e before) (queue_still e) (sound.aired e);
+      got = λ e l. got_still (IsItem (peer_of e) l before) (λ item. IsBooking (λ m. queued (peer_of e) m (queue_step ∷ before)) (booked (peer_of e) before) l item.numbers item.body) (λ item b. queue_still (peer_of e) l item.numbers item.body b) (gots e l) (sound.got e l);
+    }
+
+  -- ---- reserve
+
+  module _ (thread : ℕ) (end : EndId) (lane : Lane) (outcome : Outcome) (is_lane : IsLane lane) where
+    abbrev reserve_told : EndId → Outcome
+    reserve_told x = reserve_answer (hand_of (end_of a x).hands thread) (length (lane_at (end_of a x) (lane_index lane)).queue) (lane_at (end_of a x) (lane_index lane)).sending (send_size (end_of a x).start (lane_index lane))
+
+    abbrev Reserves : EndId → Type 0
+    Reserves x = outcome ≡ reserve_told x
+
+    reserve_ends : (x : EndId) → IsEnd (after_reserve thread lane (reserve_told x) (end_of a x))
+    reserve_ends x =
+        let s = end_of a x in
+        reserve_cases (λ o. IsEnd (after_reserve thread lane o s)) (hand_of s.hands thread) (length (lane_at s (lane_index lane)).queue) (lane_at s (lane_index lane)).sending (send_size s.start (lane_index lane)) (sound.ends x) (sound.ends x) (sound.ends x)
+        (λ empty more. reserve_kept s thread lane (sound.ends x) is_lane empty (λ e. both_ways _ more (eq-eqb (lane_at s (lane_index lane)).sending.granted (length (lane_at s (lane_index lane)).queue) e)))
+
+    reserve_tells : (x : EndId) → Still x (after_reserve thread lane (reserve_told x) (end_of a x))
+    reserve_tells x =
+        let s = end_of a x in
+        reserve_cases (λ o. Still x (after_reserve thread lane o s)) (hand_of s.hands thread) (length (lane_at s (lane_index lane)).queue) (lane_at s (lane_index lane)).sending (send_size s.start (lane_index lane)) (sound.told x) (sound.told x) (sound.told x)
+        (λ empty more. sending_tells text (start_of start x) x s (queues x) (booked x before) (airings x before) (gots x) (key_of x) (sound.ends x) (sound.told x) (lane_index lane) _ _)
+
+    sound_reserve : IsAnswer text thread (commands.Reserve end lane) a outcome → Sound text start (after text thread (commands.Reserve end lane) outcome a) (step_of thread (commands.Reserve end lane) outcome ∷ before)
+    sound_reserve is = record {
+      ends = λ e. by_end (λ end e b s. Reserves end → IsEnd s) (λ x. after_reserve thread lane outcome (end_of a x)) (λ x own. subst (λ (o : Outcome). IsEnd (after_reserve thread lane o (end_of a x))) (sym own) (reserve_ends x)) (λ x y own. sound.ends y) end e is;
+      told = λ e. by_end (λ end e b s. Reserves end → Still e s) (λ x. after_reserve thread lane outcome (end_of a x)) (λ x own. subst (λ (o : Outcome). Still x (after_reserve thread lane o (end_of a x))) (sym own) (reserve_tells x)) (λ x y own. sound.told y) end e is;
+      aired = sound.aired;
+      got = sound.got;
+    }
+
+  -- ---- book
+
+  module _ (thread : ℕ) (end : EndId) (outcome : Outcome) (is : IsAnswer text thread (commands.Book end) a outcome) where
+    abbrev book_step : Step
+    book_step = step_of thread (commands.Book end) outcome
+
+    abbrev book_told : EndId → Outcome
+    book_told x = book_answer (hand_of (end_of a x).hands thread) (end_of a x).numbers
+
+    abbrev Books : EndId → Type 0
+    Books x = outcome ≡ book_told x
+
+    book_ends : (x : EndId) → IsEnd (after_book thread (book_told x) (end_of a x))
+    book_ends x =
+        let s = end_of a x in
+        book_cases (λ o. IsEnd (after_book thread o s)) (hand_of s.hands thread) s.numbers (sound.ends x) (λ lane held. given_back s thread lane (sound.ends x) held) (λ lane held. booked_so laws windows s thread lane (sound.ends x) held)
+
+    book_tells : (x : EndId) → Told x (after_book thread (book_told x) (end_of a x)) (queues x) (booked_with (book_told x) (booked x before)) (airings x before) (gots x) (key_booked (book_told x) (key_of x))
+    book_tells x =
+        let s = end_of a x in
+        book_cases (λ o. Told x (after_book thread o s) (queues x) (booked_with o (booked x before)) (airings x before) (gots x) (key_booked o (key_of x))) (hand_of s.hands thread) s.numbers (sound.told x)
+        (λ lane held. sending_tells text (start_of start x) x s (queues x) (booked x before) (airings x before) (gots x) (key_of x) (sound.ends x) (sound.told x) (lane_index lane) _ _)
+        (λ lane held. booked_tells text (start_of start x) x s (queues x) (booked x before) (airings x before) (gots x) (key_of x) (sound.ends x) (sound.told x) thread lane)
+
+    abbrev Grows : EndId → List (List Numbers) → Type 0
+    Grows e bookings = (l : ℕ) (n : Numbers) (body : List ℕ) → IsBooking (queues e) (booked e before) l n body → IsBooking (queues e) bookings l n body
+
+    grows : (x : EndId) → Grows x (booked_with (book_told x) (booked x before))
+    grows x =
+        let s = end_of a x in
+        book_cases (λ o. Grows x (booked_with o (booked x before))) (hand_of s.hands thread) s.numbers (λ l n body b. b) (λ lane held l n body b. b)
+        (λ lane held. booking_booked (queues x) (booked x before) lane (drawn s.numbers lane)
+        (omega (arith, lane_within lane ((sound.ends x).sender.of_lanes thread lane held), (sound.ends x).sender.nine, ap (λ (bs : List (List Numbers)). length bs) (sound.told x).booked_are)))
+
+    book_still : (e : EndId) → Grows e (booked e (book_step ∷ before))
+    book_still e = by_end (λ end e b s. Books end → Grows e (if b then booked_with outcome (booked e before) else booked e before)) (λ x. end_of a x)
+        (λ x own. subst (λ (o : Outcome). Grows x (booked_with o (booked x before))) (sym own) (grows x)) (λ x y own l n body b. b) end e is
+
+    sound_book : Sound text start (after text thread (commands.Book end) outcome a) (step_of thread (commands.Book end) outcome ∷ before)
+    sound_book = record {
+      ends = λ e. by_end (λ end e b s. Books end → IsEnd s) (λ x. after_book thread outcome (end_of a x)) (λ x own. subst (λ (o : Outcome). IsEnd (after_book thread o (end_of a x))) (sym own) (book_ends x)) (λ x y own. sound.ends y) end e is;
+      told = λ e. by_end (λ end e b s. Books end → Told e s (queues e) (if b then booked_with outcome (booked e before) else booked e before) (airings e before) (gots e) (if b then key_booked outcome (key_of e) else key_of e)) (λ x. after_book thread outcome (end_of a x))
+          (λ x own. subst (λ (o : Outcome). Told x (after_book thread o (end_of a x)) (queues x) (booked_with o (booked x before)) (airings x before) (gots x) (key_booked o (key_of x))) (sym own) (book_tells x)) (λ x y own. sound.told y) end e is;
+      aired = λ e. aired_still (queues e) (queues e) (booked e before) (booked e (book_step ∷ before)) (airings e before) (book_still e) (sound.aired e);
+      got = λ e l. got_still (IsItem (peer_of e) l before) (λ item. IsBooking (queues (peer_of e)) (booked (peer_of e) (book_step ∷ before)) l item.numbers item.body) (λ item b. book_still (peer_of e) l item.numbers item.body b) (gots e l) (sound.got e l);
+    }
+
+  -- ---- put
+
+  module _ (thread : ℕ) (end : EndId) (link : ℕ) (outcome : Outcome) where
+    abbrev Puts : EndId → Type 0
+    Puts x = outcome ≡ put_of link (hand_of (end_of a x).hands thread) (end_of a x)
+
+    abbrev put_end : EndId → EndState
+    put_end x = after_put thread link (aired_octets text link (hand_of (end_of a x).hands thread) (end_of a x)) outcome (end_of a x)
+
+    -- what a put with this answer leaves
+    record Put (x : EndId) (held : Hand) (o : Outcome) : Type 0 where
+      pub stays : IsEnd (after_put thread link (aired_octets text link held (end_of a x)) o (end_of a x))
+      pub told : Told x (after_put thread link (aired_octets text link held (end_of a x)) o (end_of a x)) (queues x) (booked x before) (airings_put x before link o (airings x before)) (gots x) (key_of x)
+      pub aired : Aired (queues x) (booked x before) (airings_put x before link o (airings x before))
+
+    down : (x : EndId) (held : Hand) → hand_of (end_of a x).hands thread ≡ held → IsEnd (put_down thread held (end_of a x))
+    down x hand.Empty is = sound.ends x
+    down x (hand.Reserve lane) is = sound.ends x
+    down x (hand.Booking lane n) is = puts_down (end_of a x) thread lane n (sound.ends x) is
+
+    down_told : (x : EndId) → Still x (put_down thread (hand_of (end_of a x).hands thread) (end_of a x))
+    down_told x = down_tells text (start_of start x) x (end_of a x) (queues x) (booked x before) (airings x before) (gots x) (key_of x) (sound.told x) thread (hand_of (end_of a x).hands thread)
+
+    sent : (x : EndId) (lane : Lane) (n : Numbers) → hand_of (end_of a x).hands thread ≡ hand.Booking lane n → Put x (hand.Booking lane n) (outcomes.Put lane n (was_aired_at (lane_at (end_of a x) (lane_index lane)).aired n.pos))
+    sent x lane n held =
+        let s = end_of a x in
+        let k = lane_index lane in
+        let there = (sound.ends x).sender.held thread lane n held in
+        let lt : k < lane_count = lane_within lane there.1 in
+        let new : Airing = record { link = link; lane = lane; numbers = n; retry = was_aired_at (lane_at s k).aired n.pos; body = body_at (queued x k before) n.pos } in
+        let octets = octets_of text s.start s.start.end (airing_of link lane n (lane_at s k)) in
+        let octets_are : octets ≡ octets_of text (start_of start x) x new =
+        ap (λ (st : EndStart). octets_of text st st.end (airing_of link lane n (lane_at s k))) (sound.told x).start_is
+        ∙ ap (λ (e : EndId). octets_of text (start_of start x) e (airing_of link lane n (lane_at s k))) (own_end start is_start x)
+        ∙ ap (λ (q : List (List ℕ)). octets_of text (start_of start x) x (record { link = link; lane = lane; numbers = n; retry = was_aired_at (lane_at s k).aired n.pos; body = body_at q n.pos })) ((sound.told x).lanes k lt).queue_is in
+        record {
+          stays = subst (λ (h : Hand). IsEnd (put_down thread h (with_frame link octets lane n s))) (sym held) (aired_so s thread lane n link octets (sound.ends x) held);
+          told = down_tells text (start_of start x) x (with_frame link octets lane n s) (queues x) (booked x before) (airings x before ++ new ∷ []) (gots x) (key_of x)
+              (framed_tells text (start_of start x) x s (queues x) (booked x before) (airings x before) (gots x) (key_of x) (sound.ends x) (sound.told x) new octets octets_are) thread (hand_of s.hands thread);
+          aired = aired_more (queues x) (booked x before) (airings x before) new (record { booking = booking_is x k n there.0; of_lane = there.1 }) (sound.aired x);
+        }
+
+    put : (x : EndId) (held : Hand) → hand_of (end_of a x).hands thread ≡ held → Put x held (put_of link held (end_of a x))
+    put x hand.Empty is = record { stays = down x (hand_of (end_of a x).hands thread) refl; told = down_told x; aired = sound.aired x }
+    put x (hand.Reserve lane) is = record { stays = down x (hand_of (end_of a x).hands thread) refl; told = down_told x; aired = sound.aired x }
+    put x (hand.Booking lane n) is =
+        put_cases (Put x (hand.Booking lane n)) lane n _ _ _
+        (record { stays = down x (hand_of (end_of a x).hands thread) refl; told = down_told x; aired = sound.aired x })
+        (record { stays = down x (hand_of (end_of a x).hands thread) refl; told = down_told x; aired = sound.aired x })
+        (λ up. sent x lane n is)
+
+    put_all : (x : EndId) → Puts x → Put x (hand_of (end_of a x).hands thread) outcome
+    put_all x own = subst (Put x (hand_of (end_of a x).hands thread)) (sym own) (put x (hand_of (end_of a x).hands thread) refl)
+
+    sound_put : IsAnswer text thread (commands.Put end link) a outcome → Sound text start (after text thread (commands.Put end link) outcome a) (step_of thread (commands.Put end link) outcome ∷ before)
+    sound_put is = record {
+      ends = λ e. by_end (λ end e b s. Puts end → IsEnd s) put_end (λ x own. (put_all x own).stays) (λ x y own. sound.ends y) end e is;
+      told = λ e. by_end (λ end e b s. Puts end → Told e s (queues e) (booked e before) (if b then airings_put e before link outcome (airings e before) else airings e before) (gots e) (key_of e)) put_end (λ x own. (put_all x own).told) (λ x y own. sound.told y) end e is;
+      aired = λ e. by_end (λ end e b s. Puts end → Aired (queues e) (booked e before) (if b then airings_put e before link outcome (airings e before) else airings e before)) put_end (λ x own. (put_all x own).aired) (λ x y own. sound.aired y) end e is;
+      got = sound.got;
+    }
+
+  -- ---- deliver
+
+  -- what a frame that was heard with this answer leaves
+  record Heard (x : EndId) (o : Outcome) : Type 0 where
+    pub stays : IsEnd (after_heard (end_of a (peer_of x)) o (end_of a x))
+    pub told : Told x (after_heard (end_of a (peer_of x)) o (end_of a x)) (queues x) (booked x before) (airings x before) (λ l. received (start_of start x) x l before o (gots x l)) (key_of x)
+    pub got : (l : ℕ) → Got (IsItem (peer_of x) l before) (received (start_of start x) x l before o (gots x l))
+
+  quiet : (x : EndId) (o : Outcome) → IsPlain o → Heard x o
+  quiet x (outcomes.Stored lane number n up) plain = absurd plain
+  quiet x other plain = record { stays = sound.ends x; told = sound.told x; got = sound.got x }
+
+  module _ (x : EndId) (lane : Lane) (number : ℕ) (n : Numbers) (there : Contains (list_of (end_of a (peer_of x)).booked lane) n) where
+    abbrev s : EndState
+    s = end_of a x
+
+    abbrev sender : EndState
+    sender = end_of a (peer_of x)
+
+    abbrev size : ℕ
+    size = receive_size s.start (lane_index lane)
+
+    got_at : (l : ℕ) (b : Bool) → at_place lane l ≡ b
+        → Got (IsItem (peer_of x) l before) (if b then taken (arrived (gots x l).window number (receive_size (start_of start x) l) (record { numbers = n; body = body_at (queued (peer_of x) l before) n.pos })) (gots x l) else gots x l)
+    got_at l true at =
+        got_taken (IsItem (peer_of x) l before) trans (gots x l) number (receive_size (start_of start x) l) (record { numbers = n; body = body_at (queued (peer_of x) l before) n.pos })
+        (booking_is (peer_of x) l n (subst (λ (ns : List Numbers). Contains ns n) (same_list sender.booked lane l at) there)) (sound.got x l)
+    got_at l false at = sound.got x l
+
+    by_come : (b : Bool) → is_above (last_of s.last lane) n.key n.pn ≡ b → (come : Arrived Arrival) → arrived (lane_at s (lane_index lane)).window number size (arrival_of sender lane n) ≡ come
+        → Heard x (if b then hear_arrived lane number n (last_of s.last lane) come else outcomes.Replay)
+    by_come false above come is = quiet x outcomes.Replay tt
+    by_come true above Old is = quiet x outcomes.OldNumber tt
+    by_come true above Doubled is = quiet x outcomes.Double tt
+    by_come true above (Stored moved) is =
+        let leaves : after_hear lane number size (arrival_of sender lane n) s ≡ with_moved lane moved s =
+        ap (λ (b : Bool). if b then after_arrived lane (arrived (lane_at s (lane_index lane)).window number size (arrival_of sender lane n)) s else s) above ∙ ap (λ (c : Arrived Arrival). after_arrived lane c s) is in
+        let lt : lane_index lane < lane_count = omega (arith, contains_within sender.booked (lane_index lane) n there, (sound.ends (peer_of x)).sender.nine) in
+        let body : body_at (lane_at sender (lane_index lane)).queue n.pos ≡ body_at (queued (peer_of x) (lane_index lane) before) n.pos = ap (λ (q : List (List ℕ)). body_at q n.pos) ((sound.told (peer_of x)).lanes (lane_index lane) lt).queue_is in
+        record {
+          stays = hear_kept s lane number size (arrival_of sender lane n) (sound.ends x);
+          told = subst (λ (t : EndState). Told x t (queues x) (booked x before) (airings x before) (λ l. received (start_of start x) x l before (outcomes.Stored lane number n (let_up (last_of s.last lane) moved.up).positions) (gots x l)) (key_of x)) (sym leaves)
+              (moved_tells text (start_of start x) x s (queues x) (booked x before) (airings x before) (gots x) (key_of x) (sound.ends x) (sound.told x) lane number (arrival_of sender lane n) moved is (queues (peer_of x)) body);
+          got = λ l. got_at l (at_place lane l) refl;
+        }
+
+    heard_booked : Heard x (hear_answer lane number size (arrival_of sender lane n) s)
+    heard_booked = by_come (is_above (last_of s.last lane) n.key n.pn) refl (arrived (lane_at s (lane_index lane)).window number size (arrival_of sender lane n)) refl
+
+  opened_heard : (x : EndId) (c : Closed) (found : Option Numbers) → ((n : Numbers) → found ≡ Some n → Contains (list_of (end_of a (peer_of x)).booked c.lane) n) → Heard x (opened_answer (end_of a x) (end_of a (peer_of x)) c found)
+  opened_heard x c None there = quiet x outcomes.NotOpened tt
+  opened_heard x c (Some n) there = heard_booked x c.lane c.number n (there n refl)
+
+  judged_heard : (x : EndId) (link : ℕ) (reading : Result FrameValue Refusal) (j : Judged) → judged_at (end_of a x) link reading ≡ j → Heard x (judged_answer text (end_of a x) (end_of a (peer_of x)) j)
+  judged_heard x link reading (Answered outcome) is = quiet x outcome (plain_answer (end_of a x).start (end_of a x).start.end (end_of a x).newest link reading outcome is)
+  judged_heard x link reading (ToOpen c) is =
+      opened_heard x c (booking_found text (end_of a x) (end_of a (peer_of x)) c)
+      (found_there text (end_of a x).start (end_of a x).start.end c (lane_at (end_of a (peer_of x)) (lane_index c.lane)).queue (list_of (end_of a (peer_of x)).booked c.lane))
+
+  heard_if : (x : EndId) (link : ℕ) (octets : Option (List ℕ)) (o : Outcome) → HeardIf text (end_of a x) (end_of a (peer_of x)) link octets o → Heard x o
+  heard_if x link None o is = subst (Heard x) (sym is) (quiet x outcomes.NotThere tt)
+  heard_if x link (Some octets) o (reading, read, is) = subst (Heard x) (sym is) (judged_heard x link reading (judged_at (end_of a x) link reading) refl)
+
+  module _ (thread : ℕ) (end : EndId) (link : ℕ) (nth : Option ℕ) (outcome : Outcome) where
+    abbrev Hears : EndId → Type 0
+    Hears x = HeardIf text (end_of a x) (end_of a (peer_of x)) link (octets_named a x link nth) outcome
+
+    abbrev heard_end : EndId → EndState
+    heard_end x = after_heard (end_of a (peer_of x)) outcome (end_of a x)
+
+    heard_all : (x : EndId) → Hears x → Heard x outcome
+    heard_all x own = heard_if x link (octets_named a x link nth) outcome own
+
+    sound_deliver : IsAnswer text thread (commands.Deliver end link nth) a outcome
+        → Sound text start (after text thread (commands.Deliver end link nth) outcome a) (step_of thread (commands.Deliver end link nth) outcome ∷ before)
+    sound_deliver is = record {
+      ends = λ e. by_end (λ end e b s. Hears end → IsEnd s) heard_end (λ x own. (heard_all x own).stays) (λ x y own. sound.ends y) end e is;
+      told = λ e. by_end (λ end e b s. Hears end → Told e s (queues e) (booked e before) (airings e before) (λ l. if b then received (start_of start e) e l before outcome (gots e l) else gots e l) (key_of e)) heard_end (λ x own. (heard_all x own).told) (λ x y own. sound.told y) end e is;
+      aired = sound.aired;
+      got = λ e. by_end (λ end e b s. Hears end → (l : ℕ) → Got (IsItem (peer_of e) l before) (if b then received (start_of start e) e l before outcome (gots e l) else gots e l)) heard_end (λ x own. (heard_all x own).got) (λ x y own. sound.got y) end e is;
+    }
+
+  -- ---- acknowledgements
+
+  module _ (thread : ℕ) (end : EndId) (lane : Lane) (outcome : Outcome) where
+    same_ends : (P : EndId → EndState → Type 0) (acks : List Ack) (end e : EndId) → P e (end_of a e) → P e (end_of (with_acks end acks a) e)
+    same_ends P acks Ap Ap h = h
+    same_ends P acks Ap Sta h = h
+    same_ends P acks Sta Ap h = h
+    same_ends P acks Sta Sta h = h
+
+    sound_ack_out : Sound text start (after text thread (commands.AckOut end lane) outcome a) (step_of thread (commands.AckOut end lane) outcome ∷ before)
+    sound_ack_out = record {
+      ends = λ e. same_ends (λ x s. IsEnd s) _ end e (sound.ends e);
+      told = λ e. same_ends (λ x s. Still x s) _ end e (sound.told e);
+      aired = sound.aired;
+      got = sound.got;
+    }
+
+  module _ (thread : ℕ) (end : EndId) (nth : Option ℕ) (outcome : Outcome) where
+    taken_ends : (x : EndId) (named : Option Ack) → IsEnd (after_taken named (end_of a x))
+    taken_ends x None = sound.ends x
+    taken_ends x (Some ack) = ack_kept windows ack (end_of a x) (sound.ends x)
+
+    acked_told : (x : EndId) (ack : Ack) (o : Option Acked) → Still x (after_acked ack o (end_of a x))
+    acked_told x ack None = sound.told x
+    acked_told x ack (Some acked) = sending_tells text (start_of start x) x (end_of a x) (queues x) (booked x before) (airings x before) (gots x) (key_of x) (sound.ends x) (sound.told x) (lane_index ack.lane) acked.sending (end_of a x).hands
+
+    taken_tells : (x : EndId) (named : Option Ack) → Still x (after_taken named (end_of a x))
+    taken_tells x None = sound.told x
+    taken_tells x (Some ack) = acked_told x ack (acked_by ack (end_of a x))
+
+    sound_ack_in : Sound text start (after text thread (commands.AckIn end nth) outcome a) (step_of thread (commands.AckIn end nth) outcome ∷ before)
+    sound_ack_in = record {
+      ends = by_end (λ end e b s. IsEnd s) (λ x. after_taken (ack_named a x nth) (end_of a x)) (λ x. taken_ends x (ack_named a x nth)) (λ x y. sound.ends y) end;
+      told = by_end (λ end e b s. Still e s) (λ x. after_taken (ack_named a x nth) (end_of a x)) (λ x. taken_tells x (ack_named a x nth)) (λ x y. sound.told y) end;
+      aired = sound.aired;
+      got = sound.got;
+    }
+
+  pub sound_then : (thread : ℕ) (command : Command) (outcome : Outcome) → Fits start command → IsAnswer text thread command a outcome → Sound text start (after text thread command outcome a) (step_of thread command outcome ∷ before)
+  sound_then thread (commands.Queue end tid body) outcome fits is = sound_queue thread end tid body outcome fits
+  sound_then thread (commands.Reserve end lane) outcome fits is = sound_reserve thread end lane outcome fits is
+  sound_then thread (commands.Book end) outcome fits is = sound_book thread end outcome is
+  sound_then thread (commands.Put end link) outcome fits is = sound_put thread end link outcome is
+  sound_then thread (commands.Deliver end link nth) outcome fits is = sound_deliver thread end link nth outcome is
+  sound_then thread (commands.AckOut end lane) outcome fits is = sound_ack_out thread end lane outcome
+  sound_then thread (commands.AckIn end nth) outcome fits is = sound_ack_in thread end nth outcome
+
+pub legal_start : (text : Sealing) (start : Start) (steps : List Step) → Legal text start steps → IsStart start
+legal_start text start [] legal = legal
+legal_start text start (step ∷ before) legal = legal_start text start before legal.0
+
 -- each legal history is sound
-pub all_sound : NumberLaws → WindowLaws → Trans → (text : Sealing) (start : Start) (steps : List Step) → Legal text start steps → Sound start steps
-all_sound laws windows trans text start [] legal = sound_start start
-all_sound laws windows trans text start (step ∷ before) legal = sound_step laws windows trans text start before (all_sound laws windows trans text start before legal.0) step legal.1
+pub all_sound : NumberLaws → WindowLaws → Trans → (text : Sealing) (start : Start) (steps : List Step) → Legal text start steps → Sound text start (state_of text start steps) steps
+unfolding state_of
+all_sound laws windows trans text start [] legal = sound_start text start
+all_sound laws windows trans text start (step ∷ before) legal =
+    sound_then laws windows trans text start (legal_start text start before legal.0) (state_of text start before) before (all_sound laws windows trans text start before legal.0) step.thread step.command step.outcome legal.1.fits legal.1.answer

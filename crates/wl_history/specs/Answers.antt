@@ -1,11 +1,12 @@
--- What each command is answered, from the words before it.
-use Rattle.std.specs.Prelude.{ℕ, ◌%◌, if◌then◌else◌, Bool, true, false, List, [], ◌∷◌, Option, Some, None, Result, Ok, Err}
+-- What each command is answered, from the states before it, and what a put airs.
+use Rattle.std.specs.Prelude.{ℕ, ◌%◌, if◌then◌else◌, Bool, true, false, List, [], ◌∷◌, ◌++◌, Option, Some, None, Result, Ok, Err}
 use Rattle.wl_elem.specs.declared.lane.Lane.{Lane}
 use Rattle.wl_elem.specs.Lanes.{lane_index}
+use Rattle.wl_frame.specs.Sealing.{Sealing}
 use Rattle.wl_number.specs.declared.numbers.Numbers.{Numbers}
 use Rattle.wl_number.specs.NumberObject.{NumberObject, is_spent, drawn}
-use Rattle.wl_window.specs.Reordering.{Window, Arrived, Old, Doubled, Stored, arrived, stored_numbers}
-use Rattle.wl_window.specs.Originating.{Sending, Acked, acked, reserved}
+use Rattle.wl_window.specs.Reordering.{Window, stored_numbers}
+use Rattle.wl_window.specs.Originating.{Sending, Acked, is_done, reserved}
 use Rattle.wl_window.specs.declared.refusal.OriginRefusal.{OriginRefusal}
 use Rattle.wl_window.specs.declared.refusal.OriginRefusal.TheVariants.{NothingQueued, WindowFull}
 use Rattle.wl_history.specs.declared.outcome.Outcome.{Outcome}
@@ -15,7 +16,10 @@ use Rattle.wl_history.specs.declared.hand.Hand.{Hand}
 use Rattle.wl_history.specs.declared.hand.Hand.TheVariants as hand
 use Rattle.wl_history.specs.declared.arrival.Arrival.{Arrival}
 use Rattle.wl_history.specs.declared.ack.Ack.{Ack}
-use Rattle.wl_history.specs.Words.{Receiving, is_new, release}
+use Rattle.wl_history.specs.Ends.{is_set_up}
+use Rattle.wl_history.specs.Words.{Airing, body_at}
+use Rattle.wl_history.specs.Hearing.{octets_of}
+use Rattle.wl_history.specs.EndState.{LaneState, EndState, lane_at, was_aired_at, acked_by}
 
 abbrev pub is_empty : Hand → Bool
 is_empty hand.Empty = true
@@ -44,35 +48,37 @@ put_answer lane numbers is_done was_aired is_set_up =
     else if is_set_up then outcomes.Put lane numbers was_aired
     else outcomes.Kept lane numbers.pos NotSetUp
 
--- the positions of these items that are released where those were released before
-abbrev pub released_positions : List Arrival → List Arrival → List ℕ
-released_positions [] released = []
-released_positions (item ∷ up) released =
-    if is_new item.numbers released
-    then item.numbers.pos ∷ released_positions up (release item released)
-    else released_positions up (release item released)
+-- a put over a link, for what the hand holds
+abbrev pub put_of : ℕ → Hand → EndState → Outcome
+put_of link (hand.Booking lane n) s = put_answer lane n (is_done (lane_at s (lane_index lane)).sending n.pos) (was_aired_at (lane_at s (lane_index lane)).aired n.pos) (is_set_up s.start link)
+put_of link other s = outcomes.Nothing
 
--- a body that opened, with this sequence number, at a lane that has received so
-abbrev pub arrived_answer : Lane → ℕ → Numbers → List Arrival → Arrived Arrival → Outcome
-arrived_answer lane number numbers released Old = outcomes.OldNumber
-arrived_answer lane number numbers released Doubled = outcomes.Double
-arrived_answer lane number numbers released (Stored moved) = outcomes.Stored lane number numbers (released_positions moved.up released)
+abbrev pub airing : ℕ → Lane → Numbers → Bool → List ℕ → Airing
+airing link lane n retry body = record { link = link; lane = lane; numbers = n; retry = retry; body = body }
 
-abbrev pub receive_answer : Lane → ℕ → ℕ → Arrival → Receiving → Outcome
-receive_answer lane number size item r =
-    if is_new item.numbers r.released
-    then arrived_answer lane number item.numbers r.released (arrived r.window number size item)
-    else outcomes.Replay
+-- the airing of a booking over a link, from what is kept of its lane
+abbrev pub airing_of : ℕ → Lane → Numbers → LaneState → Airing
+airing_of link lane n kept = airing link lane n (was_aired_at kept.aired n.pos) (body_at kept.queue n.pos)
+
+-- the octets that a put airs, where it airs any
+abbrev pub aired_octets : Sealing → ℕ → Hand → EndState → List ℕ
+aired_octets text link (hand.Booking lane n) s = octets_of text s.start s.start.end (airing_of link lane n (lane_at s (lane_index lane)))
+aired_octets text link other s = []
 
 -- an acknowledgement of a lane with this window
 abbrev pub ack_out_answer : Window Arrival → Outcome
 ack_out_answer w = outcomes.Acked (w.start % 4096) (stored_numbers w.slots)
+
+-- the acknowledgements that an end made, with one more of this lane
+abbrev pub acks_made : Lane → Outcome → List Ack → List Ack
+acks_made lane (outcomes.Acked start stored) old = old ++ record { lane = lane; start = start; stored = stored } ∷ []
+acks_made lane other old = old
 
 abbrev pub taken_answer : Option Acked → Outcome
 taken_answer None = outcomes.OldAck
 taken_answer (Some acked) = outcomes.Done acked.newly
 
 -- an acknowledgement that is taken, where it is there, at the lane that it names
-abbrev pub ack_in_answer : Option Ack → (ℕ → Sending) → Outcome
-ack_in_answer None sending = outcomes.NotThere
-ack_in_answer (Some ack) sending = taken_answer (acked (sending (lane_index ack.lane)) ack.start ack.stored)
+abbrev pub ack_answer : Option Ack → EndState → Outcome
+ack_answer None s = outcomes.NotThere
+ack_answer (Some ack) s = taken_answer (acked_by ack s)

@@ -1,12 +1,14 @@
 -- The state of an end, and what each call makes of it. Nothing here speaks of a history.
-use Rattle.std.specs.Prelude.{◌≡◌, ℕ, zero, suc, ◌+◌, ◌-◌, if◌then◌else◌, Bool, true, false, List, [], ◌∷◌, ◌++◌, length, slice_index_or, slice_set, Option, Some, None}
+use Rattle.std.specs.Prelude.{◌≡◌, ◌≤◌, ℕ, zero, suc, ◌+◌, ◌-◌, if◌then◌else◌, Bool, true, false, List, [], ◌∷◌, ◌++◌, length, slice_index_or, slice_set, Option, Some, None}
 use Rattle.wl_elem.specs.declared.lane.Lane.{Lane}
+use Rattle.wl_elem.specs.Element.{msdu_limit}
 use Rattle.wl_elem.specs.Lanes.{lane_index, lane_count}
 use Rattle.wl_number.specs.declared.numbers.Numbers.{Numbers}
-use Rattle.wl_number.specs.NumberObject.{NumberObject, after_draw}
+use Rattle.wl_number.specs.NumberObject.{NumberObject, opened, after_draw}
+use Rattle.wl_number.specs.Bookings.{no_bookings}
 use Rattle.wl_number.specs.OrderRule.{with_booking}
 use Rattle.wl_replay.specs.declared.replay.Pair.{Pair}
-use Rattle.wl_replay.specs.Replay.{is_above, last_of}
+use Rattle.wl_replay.specs.Replay.{is_above, last_of, no_pairs}
 use Rattle.wl_window.specs.Reordering.{Window, Moved, Arrived, Old, Doubled, Stored, arrived}
 use Rattle.wl_window.specs.Originating.{Sending, Acked, with_booked, acked}
 use Rattle.wl_history.specs.declared.ack.Ack.{Ack}
@@ -16,8 +18,10 @@ use Rattle.wl_history.specs.declared.hand.Hand.TheVariants as hand
 use Rattle.wl_history.specs.declared.outcome.Outcome.{Outcome}
 use Rattle.wl_history.specs.declared.outcome.Outcome.TheVariants as outcomes
 use Rattle.wl_history.specs.declared.start.EndStart.{EndStart}
+use Rattle.wl_history.specs.Ends.{receive_size}
 use Rattle.wl_history.specs.Hands.{hand_of, set_hand}
 use Rattle.wl_history.specs.Sender.{IsSender}
+use Rattle.wl_history.specs.Words.{body_at}
 
 -- ---- what an end keeps
 
@@ -62,11 +66,32 @@ lane_at s l = slice_index_or s.lanes l no_lane
 abbrev pub frames_on : EndState → ℕ → List (List ℕ)
 frames_on s link = slice_index_or s.frames link []
 
+-- the lanes of an end that did nothing yet, and its frames
+abbrev pub no_lanes : List LaneState
+no_lanes = no_lane ∷ no_lane ∷ no_lane ∷ no_lane ∷ no_lane ∷ no_lane ∷ no_lane ∷ no_lane ∷ no_lane ∷ []
+
+abbrev pub no_frames : List (List (List ℕ))
+no_frames = [] ∷ [] ∷ [] ∷ [] ∷ [] ∷ [] ∷ [] ∷ [] ∷ [] ∷ [] ∷ [] ∷ [] ∷ [] ∷ [] ∷ [] ∷ []
+
+-- nothing was queued, sent or received
+abbrev pub started : EndStart → EndState
+started start = record {
+  start = start;
+  lanes = no_lanes;
+  hands = [];
+  numbers = opened start.first_key start.first_pn;
+  booked = no_bookings;
+  last = no_pairs;
+  newest = start.newest;
+  frames = no_frames;
+}
+
 -- what holds of each end
 pub record IsEnd (s : EndState) : Type 0 where
   pub nine : length s.lanes ≡ lane_count
   pub nine_pairs : length s.last ≡ lane_count
   pub fifteen : length s.frames ≡ 15
+  pub short : (l pos : ℕ) → length (body_at (lane_at s l).queue pos) ≤ msdu_limit
   pub sender : IsSender (λ l. (lane_at s l).queue) s.hands s.numbers s.booked (λ l. (lane_at s l).sending)
 
 -- ---- parts of the calls
@@ -180,3 +205,17 @@ after_acked ack (Some acked) s = with_sending (lane_index ack.lane) acked.sendin
 
 abbrev pub after_ack : Ack → EndState → EndState
 after_ack ack s = after_acked ack (acked_by ack s) s
+
+-- an acknowledgement that is taken, where it is there
+abbrev pub after_taken : Option Ack → EndState → EndState
+after_taken None s = s
+after_taken (Some ack) s = after_ack ack s
+
+-- what a receiver stores of a booking of this sender
+abbrev pub arrival_of : EndState → Lane → Numbers → Arrival
+arrival_of sender lane n = record { numbers = n; body = body_at (lane_at sender (lane_index lane)).queue n.pos }
+
+-- a frame of this sender that was heard
+abbrev pub after_heard : EndState → Outcome → EndState → EndState
+after_heard sender (outcomes.Stored lane number n up) s = after_hear lane number (receive_size s.start (lane_index lane)) (arrival_of sender lane n) s
+after_heard sender other s = s

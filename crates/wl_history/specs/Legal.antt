@@ -1,10 +1,8 @@
--- Legal histories: each step is answered as the steps before it say, and none is of a frame that
+-- Legal histories: each step is answered as the state before it says, and none is of a frame that
 -- opens though its sender never booked it.
-use Rattle.std.specs.Prelude.{◌≡◌, ◌≢◌, ℕ, ◌<◌, ◌≤◌, true, List, [], ◌∷◌, length, Option, Some, None, Result}
+use Rattle.std.specs.Prelude.{◌≡◌, ◌≢◌, ℕ, ◌<◌, ◌≤◌, ◌^◌, true, List, [], ◌∷◌, length, Option, Some, None, IfSome, Result}
 use Rattle.wl_elem.specs.declared.fault.Refusal.{Refusal}
-use Rattle.wl_elem.specs.declared.lane.EndId.{EndId}
 use Rattle.wl_elem.specs.declared.lane.Lane.{Lane}
-use Rattle.wl_elem.specs.declared.lane.Lane.TheVariants as lanes
 use Rattle.wl_elem.specs.Lanes.{peer_of, lane_index, IsLane}
 use Rattle.wl_frame.specs.Frame.{FrameValue}
 use Rattle.wl_frame.specs.Refusals.{ReadAs}
@@ -12,85 +10,69 @@ use Rattle.wl_frame.specs.Sealing.{Sealing, IsOctets}
 use Rattle.std.specs.List.{Contains}
 use Rattle.wl_number.specs.declared.numbers.Numbers.{Numbers}
 use Rattle.wl_number.specs.OrderRule.{list_of}
-use Rattle.wl_window.specs.Originating.{is_done}
 use Rattle.wl_history.specs.declared.command.Command.{Command}
 use Rattle.wl_history.specs.declared.command.Command.TheVariants as commands
 use Rattle.wl_history.specs.declared.outcome.Outcome.{Outcome}
 use Rattle.wl_history.specs.declared.outcome.Outcome.TheVariants as outcomes
-use Rattle.wl_history.specs.declared.hand.Hand.{Hand}
-use Rattle.wl_history.specs.declared.hand.Hand.TheVariants as hand
 use Rattle.wl_history.specs.declared.opened.Opened.{Opened}
-use Rattle.wl_history.specs.declared.start.EndStart.{EndStart}
 use Rattle.wl_history.specs.declared.start.Start.{Start}
 use Rattle.wl_history.specs.declared.step.Step.{Step}
-use Rattle.wl_history.specs.Ends.{start_of, is_link, is_set_up, send_size, receive_size}
+use Rattle.wl_history.specs.Ends.{IsStart, start_of, is_link, send_size, receive_size}
 use Rattle.wl_history.specs.Hands.{hand_of}
-use Rattle.wl_history.specs.Words.{queued, body_at, hands, numbers, booked, acks, nth_of, sending, Airing, airings, airings_on, was_aired, receiving}
-use Rattle.wl_history.specs.Answers.{reserve_answer, book_answer, put_answer, receive_answer, ack_out_answer, ack_in_answer}
-use Rattle.wl_history.specs.Hearing.{octets_of, Closed, Judged, Answered, ToOpen, judged, opened_under, sealed_under, text_of, booking_of}
+use Rattle.wl_history.specs.Words.{body_at}
+use Rattle.wl_history.specs.Answers.{reserve_answer, book_answer, put_of, ack_out_answer, ack_answer}
+use Rattle.wl_history.specs.Hearing.{Closed, Judged, Answered, ToOpen, judged, opened_under, sealed_under, text_of, booking_of}
+use Rattle.wl_history.specs.EndState.{EndState, lane_at, arrival_of, hear_answer}
+use Rattle.wl_history.specs.AirState.{AirState, end_of, octets_named, ack_named, state_of}
 use Rattle.wl_elem.specs.Element.{msdu_limit}
 
--- the end that acts
-abbrev pub actor : Command → EndId
-actor (commands.Queue end tid body) = end
-actor (commands.Reserve end lane) = end
-actor (commands.Book end) = end
-actor (commands.Put end link) = end
-actor (commands.Deliver end link nth) = end
-actor (commands.AckOut end lane) = end
-actor (commands.AckIn end nth) = end
-
--- a put of what the hand holds
-abbrev pub put_of : EndStart → EndId → List Step → ℕ → Hand → Outcome
-put_of start e before link (hand.Booking lane n) =
-    put_answer lane n (is_done (sending e (lane_index lane) before) n.pos) (was_aired (lane_index lane) n.pos (airings e before)) (is_set_up start link)
-put_of start e before link other = outcomes.Nothing
+-- ---- hearing: `s` hears octets of `sender`
 
 -- a payload, where its sender has the booking or not
-abbrev pub opened_answer : EndStart → EndId → List Step → Closed → Option Numbers → Outcome
-opened_answer start e before c None = outcomes.NotOpened
-opened_answer start e before c (Some n) =
-    receive_answer c.lane c.number (receive_size start (lane_index c.lane)) (record { numbers = n; body = body_at (queued (peer_of e) (lane_index c.lane) before) n.pos }) (receiving start e (lane_index c.lane) before)
+abbrev pub opened_answer : EndState → EndState → Closed → Option Numbers → Outcome
+opened_answer s sender c None = outcomes.NotOpened
+opened_answer s sender c (Some n) = hear_answer c.lane c.number (receive_size s.start (lane_index c.lane)) (arrival_of sender c.lane n) s
 
-abbrev pub judged_answer : Sealing → EndStart → EndId → List Step → Judged → Outcome
-judged_answer text start e before (Answered outcome) = outcome
-judged_answer text start e before (ToOpen c) =
-    opened_answer start e before c (booking_of text start e c (queued (peer_of e) (lane_index c.lane) before) (list_of (booked (peer_of e) before) c.lane))
+-- the sender's booking that a payload is of, found by its text
+abbrev pub booking_found : Sealing → EndState → EndState → Closed → Option Numbers
+booking_found text s sender c = booking_of text s.start s.start.end c (lane_at sender (lane_index c.lane)).queue (list_of sender.booked c.lane)
 
--- the key that the receiver holds at its newest
-abbrev pub newest : EndStart → List Step → ℕ
-newest start before = start.newest
+abbrev pub judged_answer : Sealing → EndState → EndState → Judged → Outcome
+judged_answer text s sender (Answered outcome) = outcome
+judged_answer text s sender (ToOpen c) = opened_answer s sender c (booking_found text s sender c)
+
+-- what the tests before the opening leave of octets that were read so
+abbrev pub judged_at : EndState → ℕ → Result FrameValue Refusal → Judged
+judged_at s link reading = judged s.start s.start.end s.newest link reading
 
 -- The answer to octets heard on a link: they are read as a frame, judged, opened and stored.
-abbrev pub HeardAs : Sealing → EndStart → EndId → List Step → ℕ → List ℕ → Outcome → Type 0
-HeardAs text start e before link octets outcome =
-    (reading : Result FrameValue Refusal) × ReadAs octets reading × (outcome ≡ judged_answer text start e before (judged start e (newest start before) link reading))
+abbrev pub HeardAs : Sealing → EndState → EndState → ℕ → List ℕ → Outcome → Type 0
+HeardAs text s sender link octets outcome = (reading : Result FrameValue Refusal) × ReadAs octets reading × (outcome ≡ judged_answer text s sender (judged_at s link reading))
 
 -- a frame that isn't there is answered so
-abbrev pub HeardIf : Sealing → EndStart → EndId → List Step → ℕ → Option Airing → Outcome → Type 0
-HeardIf text start e before link None outcome = outcome ≡ outcomes.NotThere
-HeardIf text start e before link (Some airing) outcome = HeardAs text start e before link (octets_of text start (peer_of e) airing) outcome
+abbrev pub HeardIf : Sealing → EndState → EndState → ℕ → Option (List ℕ) → Outcome → Type 0
+HeardIf text s sender link None outcome = outcome ≡ outcomes.NotThere
+HeardIf text s sender link (Some octets) outcome = HeardAs text s sender link octets outcome
 
--- the frame that a command names, of those that the peer aired on the link
-abbrev pub frame_named : EndId → List Step → ℕ → Option ℕ → Option Airing
-frame_named e before link nth = nth_of nth (airings_on link (airings (peer_of e) before))
+-- ---- answers
 
--- The answer to a command of a thread after some steps.
-abbrev pub IsAnswer : Sealing → Start → List Step → ℕ → Command → Outcome → Type 0
-IsAnswer text start before thread (commands.Queue end tid body) outcome = outcome ≡ outcomes.Queued (length (queued end (lane_index (lanes.Tid tid)) before))
-IsAnswer text start before thread (commands.Reserve end lane) outcome =
-    outcome ≡ reserve_answer (hand_of (hands end before) thread) (length (queued end (lane_index lane) before)) (sending end (lane_index lane) before) (send_size (start_of start end) (lane_index lane))
-IsAnswer text start before thread (commands.Book end) outcome =
-    outcome ≡ book_answer (hand_of (hands end before) thread) (numbers (start_of start end) end before)
-IsAnswer text start before thread (commands.Put end link) outcome = outcome ≡ put_of (start_of start end) end before link (hand_of (hands end before) thread)
-IsAnswer text start before thread (commands.Deliver end link nth) outcome = HeardIf text (start_of start end) end before link (frame_named end before link nth) outcome
-IsAnswer text start before thread (commands.AckOut end lane) outcome = outcome ≡ ack_out_answer (receiving (start_of start end) end (lane_index lane) before).window
-IsAnswer text start before thread (commands.AckIn end nth) outcome = outcome ≡ ack_in_answer (nth_of nth (acks (peer_of end) before)) (λ l. sending end l before)
+-- The answer to a command of a thread in a state.
+abbrev pub IsAnswer : Sealing → ℕ → Command → AirState → Outcome → Type 0
+IsAnswer text thread (commands.Queue end tid body) a outcome = outcome ≡ outcomes.Queued (length (lane_at (end_of a end) tid).queue)
+IsAnswer text thread (commands.Reserve end lane) a outcome =
+    outcome ≡ reserve_answer (hand_of (end_of a end).hands thread) (length (lane_at (end_of a end) (lane_index lane)).queue) (lane_at (end_of a end) (lane_index lane)).sending (send_size (end_of a end).start (lane_index lane))
+IsAnswer text thread (commands.Book end) a outcome = outcome ≡ book_answer (hand_of (end_of a end).hands thread) (end_of a end).numbers
+IsAnswer text thread (commands.Put end link) a outcome = outcome ≡ put_of link (hand_of (end_of a end).hands thread) (end_of a end)
+IsAnswer text thread (commands.Deliver end link nth) a outcome = HeardIf text (end_of a end) (end_of a (peer_of end)) link (octets_named a end link nth) outcome
+IsAnswer text thread (commands.AckOut end lane) a outcome = outcome ≡ ack_out_answer (lane_at (end_of a end) (lane_index lane)).window
+IsAnswer text thread (commands.AckIn end nth) a outcome = outcome ≡ ack_answer (ack_named a end nth) (end_of a end)
+
+-- ---- forgeries
 
 -- No booking of the sender has this key, nonce, AAD and body.
-abbrev pub IsUnbooked : EndStart → EndId → List Step → Opened → Type 0
-IsUnbooked start sender before opened =
-    (lane : Lane) (n : Numbers) → IsLane lane → Contains (list_of (booked sender before) lane) n → sealed_under start sender lane n (body_at (queued sender (lane_index lane) before) n.pos) ≢ opened
+abbrev pub IsUnbooked : EndState → Opened → Type 0
+IsUnbooked sender opened =
+    (lane : Lane) (n : Numbers) → IsLane lane → Contains (list_of sender.booked lane) n → sealed_under sender.start sender.start.end lane n (body_at (lane_at sender (lane_index lane)).queue n.pos) ≢ opened
 
 -- what a payload may open to: octets, and no more of them than it has itself
 pub record IsBodyIn (payload body : List ℕ) : Type 0 where
@@ -98,20 +80,21 @@ pub record IsBodyIn (payload body : List ℕ) : Type 0 where
   pub shorter : length body ≤ length payload
 
 -- a payload opens to what its sender never booked
-abbrev pub ForgedAs : Sealing → EndStart → EndId → List Step → Judged → Opened → Type 0
-ForgedAs text start e before (Answered outcome) opened = ⊥
-ForgedAs text start e before (ToOpen c) opened =
-    (opened ≡ opened_under start e c opened.body) × (text_of text opened ≡ c.payload) × IsBodyIn c.payload opened.body × IsUnbooked start (peer_of e) before opened
+abbrev pub ForgedAs : Sealing → EndState → EndState → Judged → Opened → Type 0
+ForgedAs text s sender (Answered outcome) opened = ⊥
+ForgedAs text s sender (ToOpen c) opened =
+    (opened ≡ opened_under s.start s.start.end c opened.body) × (text_of text opened ≡ c.payload) × IsBodyIn c.payload opened.body × IsUnbooked sender opened
 
-abbrev pub ForgedIf : Sealing → EndStart → EndId → List Step → ℕ → Option Airing → Opened → Type 0
-ForgedIf text start e before link None opened = ⊥
-ForgedIf text start e before link (Some airing) opened =
-    (reading : Result FrameValue Refusal) × ReadAs (octets_of text start (peer_of e) airing) reading × ForgedAs text start e before (judged start e (newest start before) link reading) opened
+abbrev pub ForgedIf : Sealing → EndState → EndState → ℕ → Option (List ℕ) → Opened → Type 0
+ForgedIf text s sender link None opened = ⊥
+ForgedIf text s sender link (Some octets) opened = (reading : Result FrameValue Refusal) × ReadAs octets reading × ForgedAs text s sender (judged_at s link reading) opened
 
 -- The command hears a frame that opens though its sender never booked it.
-abbrev pub IsForged : Sealing → Start → List Step → Command → Opened → Type 0
-IsForged text start before (commands.Deliver end link nth) opened = ForgedIf text (start_of start end) end before link (frame_named end before link nth) opened
-IsForged text start before other opened = ⊥
+abbrev pub Forges : Sealing → Command → AirState → Opened → Type 0
+Forges text (commands.Deliver end link nth) a opened = ForgedIf text (end_of a end) (end_of a (peer_of end)) link (octets_named a end link nth) opened
+Forges text other a opened = ⊥
+
+-- ---- histories
 
 -- the members of a command are those of a scenario with this start
 abbrev pub Fits : Start → Command → Type 0
@@ -122,13 +105,31 @@ Fits start (commands.Deliver end link nth) = is_link (start_of start end) link �
 Fits start (commands.AckOut end lane) = IsLane lane
 Fits start other = Unit {0}
 
--- A step after some others.
-pub record IsStep (text : Sealing) (start : Start) (before : List Step) (step : Step) : Type 0 where
-  pub fits : Fits start step.command
-  pub answer : IsAnswer text start before step.thread step.command step.outcome
-  pub unforged : (opened : Opened) → ¬ IsForged text start before step.command opened
+-- a number that a command may name: of 32 bits
+abbrev pub InWord : Option ℕ → Type 0
+InWord nth = IfSome nth (λ n. n < 2 ^ 32)
 
--- Each step is one after those before it.
+-- the links and numbers that a command names are in the ranges of their types
+abbrev pub InRanges : Command → Type 0
+InRanges (commands.Put end link) = link < 15
+InRanges (commands.Deliver end link nth) = (link < 15) × InWord nth
+InRanges (commands.AckIn end nth) = InWord nth
+InRanges other = Unit {0}
+
+-- A step in a state.
+pub record IsStep (text : Sealing) (start : Start) (a : AirState) (step : Step) : Type 0 where
+  pub thread : step.thread < 2 ^ 16
+  pub fits : Fits start step.command
+  pub ranges : InRanges step.command
+  pub answer : IsAnswer text step.thread step.command a step.outcome
+  pub unforged : (opened : Opened) → ¬ Forges text step.command a opened
+
+-- a history has at most so many steps
+abbrev pub step_limit : ℕ
+step_limit = 1048576
+
+-- The start is one that a world takes, each step is one in the state that those before it leave, and they
+-- aren't too many.
 abbrev pub Legal : Sealing → Start → List Step → Type 0
-Legal text start [] = Unit {0}
-Legal text start (step ∷ before) = Legal text start before × IsStep text start before step
+Legal text start [] = IsStart start
+Legal text start (step ∷ before) = Legal text start before × IsStep text start (state_of text start before) step × (length before < step_limit)

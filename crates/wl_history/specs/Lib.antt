@@ -4,8 +4,9 @@ pub mod Words
 pub mod Sender
 pub mod Plain
 pub mod EndState
-pub mod Answers
 pub mod Hearing
+pub mod Answers
+pub mod AirState
 pub mod Legal
 pub mod Safe
 pub mod Stands

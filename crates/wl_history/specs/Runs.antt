@@ -14,7 +14,8 @@ use Rattle.wl_history.specs.declared.script.Plain.{Plain}
 use Rattle.wl_history.specs.declared.script.Plain.TheVariants.{Do, Send}
 use Rattle.wl_history.specs.declared.start.Start.{Start}
 use Rattle.wl_history.specs.declared.step.Step.{Step}
-use Rattle.wl_history.specs.Legal.{IsStep, IsForged}
+use Rattle.wl_history.specs.AirState.{state_of}
+use Rattle.wl_history.specs.Legal.{IsStep, Forges}
 
 -- who asked for what
 pub record Asked : Type 0 where
@@ -31,7 +32,7 @@ step_of thread command outcome = record { thread = thread; command = command; ou
 -- a command of thread 0 was done, and the rest after it
 abbrev pub Did : Sealing → Start → List Step → Command → (List Step → Outcome → Type 0) → Type 0
 Did text start before command Rest =
-    (outcome : Outcome) × IsStep text start before (step_of 0 command outcome) × Rest (step_of 0 command outcome ∷ before) outcome
+    (outcome : Outcome) × IsStep text start (state_of text start before) (step_of 0 command outcome) × Rest (step_of 0 command outcome ∷ before) outcome
 
 -- where a booking was made it is put on the link, and the rest comes after that
 abbrev pub PutThen : Sealing → Start → EndId → ℕ → (List Step → Type 0) → List Step → Outcome → Type 0
@@ -53,7 +54,7 @@ Plays text start [] before after = after ≡ before
 Plays text start (Once plain ∷ items) before after = PlainThen text start plain before (λ then_is. Plays text start items then_is after)
 
 abbrev pub ForgedNext : Sealing → Start → Plain → List Step → List Step → Opened → Type 0
-ForgedNext text start (Do command) before after opened = (after ≡ before) × IsForged text start before command opened
+ForgedNext text start (Do command) before after opened = (after ≡ before) × Forges text command (state_of text start before) opened
 ForgedNext text start (Send end link lane) before after opened = ⊥
 
 -- These items, done after some steps, leave those where the next command is forged.

@@ -21,8 +21,10 @@ use Rattle.wl_history.specs.declared.start.Start.{Start}
 use Rattle.wl_history.specs.declared.step.Step.{Step}
 use Rattle.wl_history.specs.Ends.{start_of, is_set_up}
 use Rattle.wl_history.specs.Words.{queued, body_at, booked, Airing, airings, receiving}
-use Rattle.wl_history.specs.Hearing.{Closed, ToOpen, judged, octets_of, opened_under, sealed_under, text_of}
-use Rattle.wl_history.specs.Legal.{frame_named, newest}
+use Rattle.wl_history.specs.Hearing.{Closed, ToOpen, opened_under, sealed_under, text_of}
+use Rattle.wl_history.specs.EndState.{EndState, lane_at}
+use Rattle.wl_history.specs.AirState.{AirState, end_of, octets_named, state_of}
+use Rattle.wl_history.specs.Legal.{judged_at}
 
 -- Order: of what a lane released, the latest first, each has a higher position than those before it.
 abbrev pub InOrder : List Arrival → Type 0
@@ -71,31 +73,32 @@ LinksKept start (step ∷ before) = LinksKept start before × StepAllowed start 
 
 -- Key: a body is stored only from a frame that opened under a key that the receiver held, to the body
 -- of a booking of its sender
-pub record OpenedUnder (text : Sealing) (start : EndStart) (e : EndId) (before : List Step) (link : ℕ) (lane : Lane) (n : Numbers) (a : Airing) : Type 0 where
+pub record OpenedUnder (text : Sealing) (s sender : EndState) (link : ℕ) (lane : Lane) (n : Numbers) (octets : List ℕ) : Type 0 where
   pub reading : Result FrameValue Refusal
-  pub read : ReadAs (octets_of text start (peer_of e) a) reading
+  pub read : ReadAs octets reading
   pub closed : Closed
-  pub to_open : judged start e (newest start before) link reading ≡ ToOpen closed
+  pub to_open : judged_at s link reading ≡ ToOpen closed
   pub lane_same : closed.lane ≡ lane
-  pub key_held : Holds (newest start before) n.key
-  pub of_sender : Contains (list_of (booked (peer_of e) before) lane) n
-  pub opens : text_of text (opened_under start e closed (body_at (queued (peer_of e) (lane_index lane) before) n.pos)) ≡ closed.payload
+  pub key_held : Holds s.newest n.key
+  pub of_sender : Contains (list_of sender.booked lane) n
+  pub opens : text_of text (opened_under s.start s.start.end closed (body_at (lane_at sender (lane_index lane)).queue n.pos)) ≡ closed.payload
 
-abbrev pub FrameOpened : Sealing → EndStart → EndId → List Step → ℕ → Lane → Numbers → Option Airing → Type 0
-FrameOpened text start e before link lane n None = ⊥
-FrameOpened text start e before link lane n (Some a) = OpenedUnder text start e before link lane n a
+abbrev pub FrameOpened : Sealing → EndState → EndState → ℕ → Lane → Numbers → Option (List ℕ) → Type 0
+FrameOpened text s sender link lane n None = ⊥
+FrameOpened text s sender link lane n (Some octets) = OpenedUnder text s sender link lane n octets
 
-abbrev pub HeardOpened : Sealing → EndStart → EndId → List Step → ℕ → Option ℕ → Outcome → Type 0
-HeardOpened text start e before link nth (outcomes.Stored lane number n up) = FrameOpened text start e before link lane n (frame_named e before link nth)
-HeardOpened text start e before link nth other = Unit {0}
+abbrev pub HeardOpened : Sealing → EndState → EndState → ℕ → Option (List ℕ) → Outcome → Type 0
+HeardOpened text s sender link octets (outcomes.Stored lane number n up) = FrameOpened text s sender link lane n octets
+HeardOpened text s sender link octets other = Unit {0}
 
-abbrev pub StepOpened : Sealing → Start → List Step → Command → Outcome → Type 0
-StepOpened text start before (commands.Deliver end link nth) outcome = HeardOpened text (start_of start end) end before link nth outcome
-StepOpened text start before other outcome = Unit {0}
+abbrev pub StepOpened : Sealing → AirState → Command → Outcome → Type 0
+StepOpened text a (commands.Deliver end link nth) outcome = HeardOpened text (end_of a end) (end_of a (peer_of end)) link (octets_named a end link nth) outcome
+StepOpened text a other outcome = Unit {0}
 
+-- by the state before each step
 abbrev pub KeysKept : Sealing → Start → List Step → Type 0
 KeysKept text start [] = Unit {0}
-KeysKept text start (step ∷ before) = KeysKept text start before × StepOpened text start before step.command step.outcome
+KeysKept text start (step ∷ before) = KeysKept text start before × StepOpened text (state_of text start before) step.command step.outcome
 
 -- All four, at both ends.
 pub record Safe (text : Sealing) (start : Start) (steps : List Step) : Type 0 where

@@ -1,14 +1,15 @@
--- Where a history leaves an end: each part of its state has the value of a word.
+-- An end's state has what the words of its history say.
 use Rattle.std.specs.Prelude.{◌≡◌, ℕ, ◌<◌, List, [], ◌∷◌, ◌++◌, slice_index_or, None}
 use Rattle.wl_elem.specs.declared.lane.EndId.{EndId}
 use Rattle.wl_elem.specs.Lanes.{lane_count}
+use Rattle.wl_number.specs.declared.numbers.Numbers.{Numbers}
 use Rattle.wl_frame.specs.Sealing.{Sealing}
 use Rattle.wl_history.specs.declared.arrival.Arrival.{Arrival}
 use Rattle.wl_history.specs.declared.start.Start.{Start}
 use Rattle.wl_history.specs.declared.start.EndStart.{EndStart}
 use Rattle.wl_history.specs.declared.step.Step.{Step}
 use Rattle.wl_history.specs.Ends.{start_of}
-use Rattle.wl_history.specs.Words.{queued, hands, numbers, booked, sending, receiving, last_pair, Airing, airings, airings_on, was_aired}
+use Rattle.wl_history.specs.Words.{queued, booked, send_key, Receiving, receiving, last_pair, Airing, airings, airings_on, was_aired}
 use Rattle.wl_history.specs.Hearing.{octets_of}
 use Rattle.wl_history.specs.EndState.{LaneState, EndState, lane_at, frames_on, was_aired_at}
 
@@ -21,21 +22,25 @@ abbrev pub octets_all : Sealing → EndStart → EndId → List Airing → List 
 octets_all text start e [] = []
 octets_all text start e (airing ∷ airings) = octets_of text start e airing ∷ octets_all text start e airings
 
--- a lane of an end, by its place
-pub record LaneStands (start : EndStart) (e : EndId) (l : ℕ) (lane : LaneState) (steps : List Step) : Type 0 where
-  pub queue : lane.queue ≡ queued e l steps
-  pub sending_is : lane.sending ≡ sending e l steps
-  pub window : lane.window ≡ (receiving start e l steps).window
-  pub released : lane.released ≡ positions_of (receiving start e l steps).released
-  pub aired : (pos : ℕ) → was_aired_at lane.aired pos ≡ was_aired l pos (airings e steps)
+-- the lane at a place has these bodies queued, has received this, and knows what was aired
+pub record LaneTells (l : ℕ) (lane : LaneState) (queue : List (List ℕ)) (got : Receiving) (aired : List Airing) : Type 0 where
+  pub queue_is : lane.queue ≡ queue
+  pub window : lane.window ≡ got.window
+  pub released : lane.released ≡ positions_of got.released
+  pub flags : (pos : ℕ) → was_aired_at lane.aired pos ≡ was_aired l pos aired
 
--- The end stands where these steps leave it, for a sealer of this meaning.
-pub record EndStands (text : Sealing) (start : Start) (e : EndId) (s : EndState) (steps : List Step) : Type 0 where
-  pub start_is : s.start ≡ start_of start e
-  pub lanes : (l : ℕ) → l < lane_count → LaneStands (start_of start e) e l (lane_at s l) steps
-  pub hands_are : s.hands ≡ hands e steps
-  pub numbers_are : s.numbers ≡ numbers (start_of start e) e steps
-  pub booked_are : s.booked ≡ booked e steps
-  pub last : (l : ℕ) → l < lane_count → slice_index_or s.last l None ≡ last_pair (receiving (start_of start e) e l steps).released
-  pub newest_is : s.newest ≡ (start_of start e).newest
-  pub frames : (link : ℕ) → link < 15 → frames_on s link ≡ octets_all text (start_of start e) e (airings_on link (airings e steps))
+-- the end that started so has these bodies queued, these bookings, has aired and received this, and sends
+-- under this key; lanes are told by their places
+pub record Tells (text : Sealing) (start : EndStart) (e : EndId) (s : EndState) (queue : ℕ → List (List ℕ)) (bookings : List (List Numbers)) (aired : List Airing) (got : ℕ → Receiving) (key : ℕ) : Type 0 where
+  pub start_is : s.start ≡ start
+  pub newest_is : s.newest ≡ start.newest
+  pub key_is : s.numbers.key ≡ key
+  pub lanes : (l : ℕ) → l < lane_count → LaneTells l (lane_at s l) (queue l) (got l) aired
+  pub booked_are : s.booked ≡ bookings
+  pub last : (l : ℕ) → l < lane_count → slice_index_or s.last l None ≡ last_pair (got l).released
+  pub frames : (link : ℕ) → link < 15 → frames_on s link ≡ octets_all text start e (airings_on link aired)
+
+-- The end's state has what the words say after these steps, for a sealer of this meaning.
+abbrev pub EndStands : Sealing → Start → EndId → EndState → List Step → Type 0
+EndStands text start e s steps =
+    Tells text (start_of start e) e s (λ l. queued e l steps) (booked e steps) (airings e steps) (λ l. receiving (start_of start e) e l steps) (send_key (start_of start e) e steps)

@@ -1,31 +1,26 @@
--- The words of a history: what an end has queued, reserved, booked, aired, received and acknowledged
--- after some steps. The steps are given with the latest first, so that behind each step stands the
--- history before it. `e` is an end, and `l` the place of a lane among the nine.
-use Rattle.std.specs.Prelude.{ℕ, zero, suc, ◌+◌, ◌-◌, ◌==◌, ◌&&◌, if◌then◌else◌, Bool, true, false, List, [], ◌∷◌, ◌++◌, Option, Some, None}
+-- The words of a history: what an end has queued, booked, aired and received after some steps, told by
+-- the steps alone. The steps are given with the latest first, so that behind each step stands the
+-- history before it. `e` is an end, and `l` the place of a lane among the nine. Stands.antt says that an
+-- end's state has the same.
+use Rattle.std.specs.Prelude.{ℕ, zero, suc, ◌==◌, ◌&&◌, max, if◌then◌else◌, Bool, true, false, List, [], ◌∷◌, ◌++◌, Option, Some, None}
 use Rattle.wl_elem.specs.declared.lane.EndId.{EndId}
 use Rattle.wl_elem.specs.declared.lane.Lane.{Lane}
 use Rattle.wl_elem.specs.declared.lane.Lane.TheVariants as lanes
 use Rattle.wl_elem.specs.Lanes.{lane_index, at_place, same_end, peer_of}
 use Rattle.wl_number.specs.declared.numbers.Numbers.{Numbers}
-use Rattle.wl_number.specs.NumberObject.{NumberObject, opened, entered}
 use Rattle.wl_number.specs.OrderRule.{with_booking}
 use Rattle.wl_replay.specs.declared.replay.Pair.{Pair}
 use Rattle.wl_replay.specs.Replay.{is_above}
 use Rattle.wl_number.specs.Bookings.{no_bookings}
 use Rattle.wl_window.specs.Reordering.{Window, Arrived, Stored, arrived}
-use Rattle.wl_window.specs.Originating.{Sending, Acked, with_booked, acked}
 use Rattle.wl_history.specs.declared.command.Command.{Command}
 use Rattle.wl_history.specs.declared.command.Command.TheVariants as commands
 use Rattle.wl_history.specs.declared.outcome.Outcome.{Outcome}
 use Rattle.wl_history.specs.declared.outcome.Outcome.TheVariants as outcomes
-use Rattle.wl_history.specs.declared.hand.Hand.{Hand}
-use Rattle.wl_history.specs.declared.hand.Hand.TheVariants as hand
 use Rattle.wl_history.specs.declared.arrival.Arrival.{Arrival}
-use Rattle.wl_history.specs.declared.ack.Ack.{Ack}
 use Rattle.wl_history.specs.declared.start.EndStart.{EndStart}
 use Rattle.wl_history.specs.declared.step.Step.{Step}
 use Rattle.wl_history.specs.Ends.{receive_size}
-use Rattle.wl_history.specs.Hands.{hand_of, set_hand}
 
 -- Queued: the bodies that an end has queued on a lane, in order. A position is a place in this list.
 abbrev pub queue_after : EndId → ℕ → Command → List (List ℕ) → List (List ℕ)
@@ -42,44 +37,6 @@ body_at [] pos = []
 body_at (body ∷ bodies) zero = body
 body_at (body ∷ bodies) (suc pos) = body_at bodies pos
 
--- Hands: what each thread holds at an end.
-abbrev pub hands_reserved : ℕ → Lane → Outcome → List Hand → List Hand
-hands_reserved thread lane outcomes.Reserved old = set_hand thread (hand.Reserve lane) old
-hands_reserved thread lane other old = old
-
-abbrev pub hands_booked : ℕ → Outcome → List Hand → List Hand
-hands_booked thread (outcomes.Booked lane numbers) old = set_hand thread (hand.Booking lane numbers) old
-hands_booked thread (outcomes.Spent lane) old = set_hand thread hand.Empty old
-hands_booked thread other old = old
-
--- a booking leaves the hand with the first put, whatever is answered
-abbrev pub hands_put : ℕ → Hand → List Hand → List Hand
-hands_put thread (hand.Booking lane numbers) old = set_hand thread hand.Empty old
-hands_put thread other old = old
-
-abbrev pub hands_after : EndId → ℕ → Command → Outcome → List Hand → List Hand
-hands_after e thread (commands.Reserve end lane) outcome old = if same_end end e then hands_reserved thread lane outcome old else old
-hands_after e thread (commands.Book end) outcome old = if same_end end e then hands_booked thread outcome old else old
-hands_after e thread (commands.Put end link) outcome old = if same_end end e then hands_put thread (hand_of old thread) old else old
-hands_after e thread other outcome old = old
-
-abbrev pub hands : EndId → List Step → List Hand
-hands e [] = []
-hands e (step ∷ before) = hands_after e step.thread step.command step.outcome (hands e before)
-
--- Numbers: the send key, its last packet number and the next position of each lane.
-abbrev pub numbers_booked : Outcome → NumberObject → NumberObject
-numbers_booked (outcomes.Booked lane n) old = entered old lane n
-numbers_booked other old = old
-
-abbrev pub numbers_after : EndId → Command → Outcome → NumberObject → NumberObject
-numbers_after e (commands.Book end) outcome old = if same_end end e then numbers_booked outcome old else old
-numbers_after e other outcome old = old
-
-abbrev pub numbers : EndStart → EndId → List Step → NumberObject
-numbers start e [] = opened start.first_key start.first_pn
-numbers start e (step ∷ before) = numbers_after e step.command step.outcome (numbers start e before)
-
 -- Booked: the bookings of each lane, by position.
 abbrev pub booked_with : Outcome → List (List Numbers) → List (List Numbers)
 booked_with (outcomes.Booked lane n) old = with_booking old lane n
@@ -93,19 +50,20 @@ abbrev pub booked : EndId → List Step → List (List Numbers)
 booked e [] = no_bookings
 booked e (step ∷ before) = booked_after e step.command step.outcome (booked e before)
 
--- Acks: what an end has acknowledged, in order.
-abbrev pub acks_made : Lane → Outcome → List Ack → List Ack
-acks_made lane (outcomes.Acked start stored) old = old ++ record { lane = lane; start = start; stored = stored } ∷ []
-acks_made lane other old = old
+-- Send key: the greatest of the first key and the keys booked.
+abbrev pub key_booked : Outcome → ℕ → ℕ
+key_booked (outcomes.Booked lane n) old = max old n.key
+key_booked other old = old
 
-abbrev pub acks_after : EndId → Command → Outcome → List Ack → List Ack
-acks_after e (commands.AckOut end lane) outcome old = if same_end end e then acks_made lane outcome old else old
-acks_after e other outcome old = old
+abbrev pub key_after : EndId → Command → Outcome → ℕ → ℕ
+key_after e (commands.Book end) outcome old = if same_end end e then key_booked outcome old else old
+key_after e other outcome old = old
 
-abbrev pub acks : EndId → List Step → List Ack
-acks e [] = []
-acks e (step ∷ before) = acks_after e step.command step.outcome (acks e before)
+abbrev pub send_key : EndStart → EndId → List Step → ℕ
+send_key start e [] = start.first_key
+send_key start e (step ∷ before) = key_after e step.command step.outcome (send_key start e before)
 
+-- Of a list: the last, the one at a place, and the one of this number, from 0, or the latest.
 abbrev pub last_of : {A : Type 0} → List A → Option A
 last_of [] = None
 last_of (x ∷ []) = Some x
@@ -116,39 +74,9 @@ at [] n = None
 at (x ∷ xs) zero = Some x
 at (x ∷ xs) (suc n) = at xs n
 
--- the one of this number, counted from 0, or the latest
 abbrev pub nth_of : {A : Type 0} → Option ℕ → List A → Option A
 nth_of None xs = last_of xs
 nth_of (Some n) xs = at xs n
-
--- Sending: granted reserves, the base, and which positions from it on are booked or done.
-abbrev pub sending_reserved : Outcome → Sending → Sending
-sending_reserved outcomes.Reserved old = record { granted = old.granted + 1; base = old.base; marks = old.marks }
-sending_reserved other old = old
-
-abbrev pub sending_numbered : ℕ → Outcome → Sending → Sending
-sending_numbered l (outcomes.Booked lane n) old = if at_place lane l then with_booked old n.pos else old
-sending_numbered l (outcomes.Spent lane) old = if at_place lane l then record { granted = old.granted - 1; base = old.base; marks = old.marks } else old
-sending_numbered l other old = old
-
--- an old ack changes nothing
-abbrev pub acked_or : Option Acked → Sending → Sending
-acked_or None old = old
-acked_or (Some acked) old = acked.sending
-
-abbrev pub sending_acked : ℕ → Option Ack → Sending → Sending
-sending_acked l None old = old
-sending_acked l (Some ack) old = if at_place ack.lane l then acked_or (acked old ack.start ack.stored) old else old
-
-abbrev pub sending_after : EndId → ℕ → Command → Outcome → List Ack → Sending → Sending
-sending_after e l (commands.Reserve end lane) outcome peers old = if same_end end e && at_place lane l then sending_reserved outcome old else old
-sending_after e l (commands.Book end) outcome peers old = if same_end end e then sending_numbered l outcome old else old
-sending_after e l (commands.AckIn end nth) outcome peers old = if same_end end e then sending_acked l (nth_of nth peers) old else old
-sending_after e l other outcome peers old = old
-
-abbrev pub sending : EndId → ℕ → List Step → Sending
-sending e l [] = record { granted = 0; base = 0; marks = [] }
-sending e l (step ∷ before) = sending_after e l step.command step.outcome (acks (peer_of e) before) (sending e l before)
 
 -- Airings: each frame that an end handed to a link, with the booking that it carries, in order.
 pub record Airing : Type 0 where

@@ -1,30 +1,33 @@
-//! Laws of the words, each the contract of a function that does nothing.
+//! Laws of the definitions, each the contract of a function that does nothing.
 
-ghost use Rattle.std.specs.Prelude.{◌≡◌, ◌+◌, ◌≤◌, ◌==◌, ℕ, false, if◌then◌else◌, List, Option, Result, length};
-ghost use Rattle.wl_elem.specs.declared.lane.Lane.{Lane};
-ghost use Rattle.wl_elem.specs.Lanes.{at_place, IsLane};
+ghost use Rattle.std.specs.Prelude.{◌≡◌, ◌≢◌, ◌≤◌, ℕ, List, length, Result};
+ghost use Rattle.wl_elem.specs.Element.{msdu_limit};
 ghost use Rattle.wl_elem.specs.declared.fault.Refusal.{Refusal};
 ghost use Rattle.wl_elem.specs.declared.lane.EndId.{EndId};
+ghost use Rattle.wl_elem.specs.declared.lane.Lane.{Lane};
+ghost use Rattle.wl_elem.specs.Lanes.{lane_index, IsLane};
 ghost use Rattle.wl_frame.specs.Frame.{FrameValue};
 ghost use Rattle.wl_frame.specs.Refusals.{ReadAs};
 ghost use Rattle.wl_frame.specs.Sealing.{Sealing};
-ghost use Rattle.wl_history.specs.declared.start.EndStart.{EndStart};
-ghost use Rattle.wl_history.specs.Hearing.{Answered, Closed, IsClosed, ToOpen, judged};
 ghost use Rattle.wl_number.specs.declared.numbers.Numbers.{Numbers};
-ghost use Rattle.wl_number.specs.NumberObject.{NumberObject, drawn, entered};
-ghost use Rattle.wl_number.specs.OrderRule.{with_booking};
-ghost use Rattle.wl_window.specs.Originating.{Sending, Keeps, with_booked};
+ghost use Rattle.wl_number.specs.NumberObject.{drawn};
+ghost use Rattle.wl_window.specs.Reordering.{Arrived};
 ghost use Rattle.wl_history.specs.declared.ack.Ack.{Ack};
-ghost use Rattle.wl_history.specs.declared.hand.Hand.{Hand};
+ghost use Rattle.wl_history.specs.declared.arrival.Arrival.{Arrival};
+ghost use Rattle.wl_history.specs.declared.command.Command.{Command};
 ghost use Rattle.wl_history.specs.declared.hand.Hand.TheVariants.{Empty, Reserve, Booking};
+ghost use Rattle.wl_history.specs.declared.outcome.Outcome.{Outcome};
+ghost use Rattle.wl_history.specs.declared.outcome.Outcome.TheVariants.{Reserved, Spent, Booked};
+ghost use Rattle.wl_history.specs.declared.start.EndStart.{EndStart};
 ghost use Rattle.wl_history.specs.declared.start.Start.{Start};
 ghost use Rattle.wl_history.specs.declared.step.Step.{Step};
-ghost use Rattle.wl_history.specs.Hands.{hand_of, set_hand, reserves, bit};
-ghost use Rattle.wl_history.specs.Words.{sending_acked};
-ghost use Rattle.wl_history.specs.Sender.{IsSender, Regranted};
-ghost use Rattle.wl_history.specs.declared.outcome.Outcome.{Outcome};
+ghost use Rattle.wl_history.specs.Hands.{hand_of};
+ghost use Rattle.wl_history.specs.Hearing.{Answered, Closed, IsClosed, ToOpen, judged};
+ghost use Rattle.wl_history.specs.EndState.{EndState, IsEnd, lane_at, started, with_hand, with_frame, after_queue, after_reserve, after_book, after_arrived, after_ack};
+ghost use Rattle.wl_history.specs.AirState.{AirState, end_of, state_of};
 ghost use Rattle.wl_history.specs.Plain.{IsPlain};
-ghost use Rattle.wl_history.specs.Legal.{Legal};
+ghost use Rattle.wl_history.specs.Legal.{IsAnswer, Legal};
+ghost use Rattle.wl_history.specs.Stands.{EndStands};
 ghost use Rattle.wl_history.specs.Runs.{asked};
 ghost use Rattle.wl_history.specs.Safe.{Safe};
 
@@ -34,43 +37,32 @@ use wl_number::{
 };
 use wl_window::{booked_after_ack, booked_after_booking};
 
-/// A sender stays one while its queues grow and its windows keep what is booked.
-pub fn sender_stays()
-    ensures { (queue longer : ℕ → List (List ℕ)) (hands : List Hand) (o : NumberObject) (lanes : List (List Numbers)) (sending later : ℕ → Sending)
-        → ((l : ℕ) → length (queue l) ≤ length (longer l)) → ((l : ℕ) → Keeps (sending l) (later l))
-        → IsSender queue hands o lanes sending → IsSender longer hands o lanes later }
-{}
-
-/// An acknowledgement keeps what is booked, on every lane.
-pub fn ack_keeps()
-    ensures { (l : ℕ) (ack : Option Ack) (s : Sending) → Keeps s (sending_acked l ack s) }
+/// What each call keeps of an end, whatever it is told: its bookings keep their order and lie below the
+/// numbers that come next, each reserve and each booking is of a queued body, and hands hold what is
+/// booked.
+pub fn an_end_keeps()
+    ensures queue { (s : EndState) (l : ℕ) (body : List ℕ) → IsEnd s → length body ≤ msdu_limit → IsEnd (after_queue l body s) }
+    ensures reserve { (s : EndState) (thread : ℕ) (lane : Lane) → IsEnd s → IsLane lane → hand_of s.hands thread ≡ Empty → (lane_at s (lane_index lane)).sending.granted ≢ length (lane_at s (lane_index lane)).queue → IsEnd (after_reserve thread lane Reserved s) }
+    ensures give_back { (s : EndState) (thread : ℕ) (lane : Lane) → IsEnd s → hand_of s.hands thread ≡ Reserve lane → IsEnd (after_book thread (Spent lane) s) }
+    ensures book { (s : EndState) (thread : ℕ) (lane : Lane) → IsEnd s → hand_of s.hands thread ≡ Reserve lane → IsEnd (after_book thread (Booked lane (drawn s.numbers lane)) s) }
+    ensures put_down { (s : EndState) (thread : ℕ) (lane : Lane) (n : Numbers) → IsEnd s → hand_of s.hands thread ≡ Booking lane n → IsEnd (with_hand thread Empty s) }
+    ensures air { (s : EndState) (thread : ℕ) (lane : Lane) (n : Numbers) (link : ℕ) (octets : List ℕ) → IsEnd s → hand_of s.hands thread ≡ Booking lane n → IsEnd (with_hand thread Empty (with_frame link octets lane n s)) }
+    ensures hear { (s : EndState) (lane : Lane) (come : Arrived Arrival) → IsEnd s → IsEnd (after_arrived lane come s) }
+    ensures ack { (ack : Ack) (s : EndState) → IsEnd s → IsEnd (after_ack ack s) }
+    ensures start { (start : EndStart) → IsEnd (started start) }
 {
+    stands_exactly();
+    highest_breaks_none();
+    a_draw_is_next();
+    pairs_in_order();
     booked_after_booking();
     booked_after_ack()
 }
 
-/// A sender stays one when an empty hand takes a reserve of a queued body.
-pub fn sender_reserves()
-    ensures { (thread : ℕ) (lane : Lane) (queue : ℕ → List (List ℕ)) (hands : List Hand) (o : NumberObject) (lanes : List (List Numbers)) (sending later : ℕ → Sending)
-        → IsLane lane → hand_of hands thread ≡ Empty
-        → ((l : ℕ) → Regranted (sending l) (later l)) → ((l : ℕ) → (later l).granted ≡ (sending l).granted + bit (at_place lane l)) → ((l : ℕ) → (later l).granted ≤ length (queue l))
-        → IsSender queue hands o lanes sending → IsSender queue (set_hand thread (Reserve lane) hands) o lanes later }
-{}
-
-/// A sender stays one when a hand is put down, and a reserve in it is given back.
-pub fn sender_gives_back()
-    ensures { (thread : ℕ) (queue : ℕ → List (List ℕ)) (hands : List Hand) (o : NumberObject) (lanes : List (List Numbers)) (sending later : ℕ → Sending)
-        → ((l : ℕ) → Regranted (sending l) (later l)) → ((l : ℕ) → (later l).granted + bit (reserves l (hand_of hands thread)) ≡ (sending l).granted)
-        → IsSender queue hands o lanes sending → IsSender queue (set_hand thread Empty hands) o lanes later }
-{}
-
-/// A sender stays one when the reserve in a hand takes the next numbers.
-pub fn sender_books()
-    ensures { (thread : ℕ) (lane : Lane) (queue : ℕ → List (List ℕ)) (hands : List Hand) (o : NumberObject) (lanes : List (List Numbers)) (sending later : ℕ → Sending)
-        → hand_of hands thread ≡ Reserve lane
-        → ((l : ℕ) → later l ≡ (if at_place lane l then with_booked (sending l) (drawn o lane).pos else sending l))
-        → IsSender queue hands o lanes sending
-        → IsSender queue (set_hand thread (Booking lane (drawn o lane)) hands) (entered o lane (drawn o lane)) (with_booking lanes lane (drawn o lane)) later }
+/// The state that a legal history leaves has what the words of the history say: what each end queued,
+/// booked, aired and released, and the key that it sends under.
+pub fn words_are_told()
+    ensures { (text : Sealing) (start : Start) (steps : List Step) → Legal text start steps → (e : EndId) → EndStands text start e (end_of (state_of text start steps) e) steps }
 {
     stands_exactly();
     highest_breaks_none();
@@ -93,6 +85,13 @@ pub fn every_history_is_safe()
     pairs_in_order();
     booked_after_booking();
     booked_after_ack()
+}
+
+/// A command of a thread has one answer in a state.
+pub fn one_answer()
+    ensures { (text : Sealing) (thread : ℕ) (command : Command) (a : AirState) (o p : Outcome) → IsAnswer text thread command a o → IsAnswer text thread command a p → o ≡ p }
+{
+    read_once()
 }
 
 /// What was asked makes one legal history: two that were asked the same commands by the same threads

@@ -18,8 +18,8 @@ pub use arrival::Arrival;
 pub use command::Command;
 pub use hand::Hand;
 pub use laws::{
-    ack_keeps, every_history_is_safe, one_history, sender_books, sender_gives_back,
-    sender_reserves, sender_stays, what_is_judged_is_plain, what_opens_fits,
+    an_end_keeps, every_history_is_safe, one_answer, one_history, what_is_judged_is_plain,
+    what_opens_fits, words_are_told,
 };
 pub use lists::{Positions, PositionsRoom, SequenceNumbers};
 pub use opened::Opened;

@@ -5,7 +5,6 @@ use Rattle.std.proofs.lemmas.Nat.Bits.{bit_at-lt, same_from_bits_below}
 use Rattle.wl_elem.specs.declared.lane.EndId.{EndId}
 use Rattle.wl_elem.specs.Links.{has_link}
 use Rattle.wl_frame.specs.Sealing.{Sealing}
-use Rattle.wl_number.specs.NumberObject.{NumberObject}
 use Rattle.wl_number.specs.Bookings.{booking_count}
 use Rattle.wl_history.specs.declared.start.EndStart.{EndStart}
 use Rattle.wl_history.specs.declared.start.Start.{Start}
@@ -69,13 +68,13 @@ reports text start e s steps t is_end stands is = record {
   aired = is.aired ∙ aired_is text start e s steps is_end stands;
   booked = is.booked ∙ ap booking_count stands.booked_are;
   emlsr = is.emlsr;
-  key = is.key ∙ ap (λ (o : NumberObject). o.key) stands.numbers_are;
+  key = is.key ∙ stands.key_is;
   links = λ k lt. is.links k lt ∙ ap (λ (x : EndStart). is_set_up x k) stands.start_is;
   few_links = is.few_links;
   dl = is.dl;
   ul = is.ul;
   newest = is.newest ∙ stands.newest_is;
-  queued = is.queued ∙ per_lane-same (λ l. length (lane_at s l).queue) (λ l. length (queued e l steps)) (λ l lt. ap length (stands.lanes l lt).queue);
+  queued = is.queued ∙ per_lane-same (λ l. length (lane_at s l).queue) (λ l. length (queued e l steps)) (λ l lt. ap length (stands.lanes l lt).queue_is);
   released = is.released ∙ per_lane-same (λ l. (lane_at s l).released) (λ l. positions_of (receiving (start_of start e) e l steps).released) (λ l lt. (stands.lanes l lt).released);
 }
 

@@ -1,11 +1,9 @@
-pub mod Ordered
-pub mod Written
-pub mod LineText
+pub mod Members
+pub mod Wholes
 pub mod Among
 pub mod Scripts
 pub mod Sounds
 pub mod Lanes
-pub mod ReportText
 pub mod Readings
 pub mod Maximal
 pub mod Accounts

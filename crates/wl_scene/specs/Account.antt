@@ -51,7 +51,7 @@ pub record Reports (start : Start) (e : EndId) (steps : List Step) (t : Totals) 
   pub booked : t.booked ≡ booking_count (words.booked e steps)
   -- no EMLSR mode is in force
   pub emlsr : t.emlsr ≡ 0
-  pub key : t.key ≡ (words.numbers (start_of start e) e steps).key
+  pub key : t.key ≡ words.send_key (start_of start e) e steps
   pub links : (k : ℕ) → k < 15 → has_link t.links k ≡ is_set_up (start_of start e) k
   pub few_links : t.links < 2 ^ 15
   pub dl : t.dl ≡ on_all t.links

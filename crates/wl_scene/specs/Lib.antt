@@ -1,13 +1,11 @@
 pub mod Objects
 pub mod Lines
-pub mod Columns
-pub mod Fields
 pub mod Members
 pub mod Commands
 pub mod Scene
 pub mod Answering
 pub mod Sound
 pub mod Report
-pub mod ReportFields
 pub mod Runs
 pub mod Account
+pub mod Built

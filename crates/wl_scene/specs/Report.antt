@@ -1,11 +1,10 @@
 -- The report: what each end has sent, holds and has released, as one line of JSON.
 use Rattle.std.specs.Prelude.{ℕ, zero, suc, ◌==◌, if◌then◌else◌, List, [], ◌∷◌, ◌++◌, Option, Some, None, codes}
-use Rattle.serde_json.specs.Data.{Data, array, object, Items, no_items, item, Members, no_members}
+use Rattle.serde_json.specs.Data.{Data, array, Items, no_items, item}
 use Rattle.serde_json.specs.Written.{compact_text}
 use Rattle.wl_elem.specs.Links.{link_limit, has_link}
 use Rattle.wl_scene.specs.declared.totals.Totals.{Totals}
-use Rattle.wl_scene.specs.Objects.{object_of, whole, wholes}
-use Rattle.wl_scene.specs.Columns.{member_if}
+use Rattle.wl_scene.specs.Objects.{Named, object_of, whole, wholes}
 
 -- positions that rise by one, from the first to the last
 pub record Run : Type 0 where
@@ -38,7 +37,7 @@ chosen set zero id = []
 chosen set (suc count) id = if has_link set id then id ∷ chosen set count (suc id) else chosen set count (suc id)
 
 -- the IDs of a set of links, ascending
-abbrev pub ids_of : ℕ → List ℕ
+unfoldable pub ids_of : ℕ → List ℕ
 ids_of set = chosen set link_limit 0
 
 -- the lanes in order
@@ -54,11 +53,16 @@ abbrev pub runs_shown : List ℕ → Option Data
 runs_shown [] = None
 runs_shown (p ∷ ps) = Some (array (runs_data (runs (p ∷ ps))))
 
+-- a member where it is shown, and the others
+abbrev pub named_if : List ℕ → Option Data → List Named → List Named
+named_if name None rest = rest
+named_if name (Some d) rest = (name, d) ∷ rest
+
 -- each lane by its name, where it is shown
-abbrev pub by_lane : {A : Type 0} → (A → Option Data) → List (List ℕ) → List A → Members
-by_lane shown [] values = no_members
-by_lane shown (name ∷ names) [] = no_members
-by_lane shown (name ∷ names) (value ∷ values) = member_if name (shown value) (by_lane shown names values)
+abbrev pub by_lane : {A : Type 0} → (A → Option Data) → List (List ℕ) → List A → List Named
+by_lane shown [] values = []
+by_lane shown (name ∷ names) [] = []
+by_lane shown (name ∷ names) (value ∷ values) = named_if name (shown value) (by_lane shown names values)
 
 abbrev pub map_data : Totals → Data
 map_data t = object_of ((codes "dl", array (wholes t.dl)) ∷ (codes "ul", array (wholes t.ul)) ∷ [])
@@ -68,7 +72,7 @@ unfoldable pub totals_data : Totals → Data
 totals_data t =
     object_of ((codes "aired", whole t.aired) ∷ (codes "booked", whole t.booked) ∷ (codes "emlsr", whole t.emlsr) ∷ (codes "key", whole t.key)
     ∷ (codes "links", array (wholes (ids_of t.links))) ∷ (codes "map", map_data t) ∷ (codes "newest", whole t.newest)
-    ∷ (codes "queued", object (by_lane count_shown lane_names t.queued)) ∷ (codes "released", object (by_lane runs_shown lane_names t.released)) ∷ [])
+    ∷ (codes "queued", object_of (by_lane count_shown lane_names t.queued)) ∷ (codes "released", object_of (by_lane runs_shown lane_names t.released)) ∷ [])
 
 abbrev pub report_data : Totals → Totals → ℕ → Data
 report_data ap sta steps = object_of ((codes "ap", totals_data ap) ∷ (codes "sta", totals_data sta) ∷ (codes "steps", whole steps) ∷ (codes "version", whole 1) ∷ [])

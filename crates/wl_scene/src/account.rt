@@ -16,7 +16,7 @@ use std::alloc::Global;
 use wl_air::World;
 use wl_elem::{Bytes, EndId, Lane, LinkSet, Memory, Tid};
 use wl_end::End;
-use wl_history::{Journal, Positions};
+use wl_history::{Journal, Positions, words_are_told};
 
 /// The lane at a place among the nine.
 fn lane_of(place: u8) -> Lane
@@ -130,6 +130,7 @@ pub fn report_text(alloc: Global, journal: &Journal, world: &World) -> Result<By
     requires steps { journal.now.steps ≡ world.now.steps }
     ensures { IfOk result (λ out. (text : Sealing) → Stands text world.now → IsReport world.now.start world.now.steps out) }
 {
+    words_are_told();
     totals_are_reported();
     let ap = end_totals(alloc, world.end_of(EndId::Ap))?;
     let sta = end_totals(alloc, world.end_of(EndId::Sta))?;

@@ -1,13 +1,24 @@
 //! The text of a journal.
 
-ghost use Rattle.std.specs.Prelude.{◌≡◌, IfOk, reverse};
+ghost use Rattle.std.specs.Prelude.{◌≡◌, ◌++◌, IfOk, OnOk, reverse};
 ghost use Rattle.std.specs.String.{string_bytes};
-ghost use Rattle.wl_scene.specs.Lines.{journal_lines};
+ghost use Rattle.wl_scene.specs.Lines.{line, journal_lines};
 
-use crate::line::push_line;
+use crate::object::Object;
 use std::alloc::Global;
 use wl_elem::{Bytes, Memory};
 use wl_history::{Journal, Step};
+
+/// Adds the line of a step.
+#[tactic(auto, unfolding(crate::specs::Lines::line))]
+fn push_line(alloc: Global, out: &mut String, step: &Step) -> Result<(), Memory>
+    ensures { OnOk result (string_bytes out.new ≡ string_bytes out.old ++ line step.now) }
+{
+    let text = Object::of_step(alloc, step)?.into_text()?;
+    out.push_str(text.as_str())?;
+    out.push_str("\n")?;
+    Ok(())
+}
 
 /// The lines of steps, the earliest first.
 fn lines_of(alloc: Global, steps: &[Step]) -> Result<String, Memory>
@@ -15,7 +26,7 @@ fn lines_of(alloc: Global, steps: &[Step]) -> Result<String, Memory>
 {
     let mut out = String::new(alloc);
     'steps: for step in steps {
-        push_line(&mut out, step)?;
+        push_line(alloc, &mut out, step)?;
     }
     Ok(out)
 }

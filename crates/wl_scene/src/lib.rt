@@ -2,7 +2,6 @@
 #![tactic(auto)]
 
 mod account;
-mod columns;
 mod commands;
 mod fault;
 mod head;
@@ -10,12 +9,13 @@ mod journal;
 mod laws;
 mod line;
 mod member;
+mod numbers;
+mod object;
 mod report;
 mod runs;
 mod scenario;
 mod scene;
 mod totals;
-mod write;
 
 pub use account::{end_totals, report_text};
 pub use fault::SceneFault;

@@ -1,132 +1,229 @@
 //! The line of a step.
 
-ghost use Rattle.std.specs.Prelude.{◌≡◌, ◌++◌, OnOk};
-ghost use Rattle.std.specs.String.{string_bytes};
-ghost use Rattle.wl_scene.specs.Lines.{line};
-ghost use Rattle.wl_scene.specs.Fields.{key_field, pn_field, begin_text, middle_text, answer_field, stored_text, end_text, fields_text};
+ghost use Rattle.std.specs.Prelude.{◌≡◌, ◌∷◌, [], codes, OnOk, IfOk};
+ghost use Rattle.serde_json.specs.Data.{object, string, put};
+ghost use Rattle.wl_history.specs.declared.outcome.Outcome.TheVariants.{Kept, BadFrame};
+ghost use Rattle.wl_scene.specs.Built.{built};
+ghost use Rattle.wl_scene.specs.Objects.{with_members};
+ghost use Rattle.wl_scene.specs.Lines.{end_name, kept_name, command_name, answer_name, end_member, lane_member, link_member, nth_data, booking_members, command_members, answer_members, step_data};
 
-use crate::columns::{
-    acting_end, answer_text, answered_lane, asked_lane, command_text, count, end_text, link, nth,
-    number, numbers, place, pos, retry, size, start, stored, tid, up, why,
-};
-use crate::write::{
-    push_count_if, push_lane_if, push_nth_if, push_number, push_number_if, push_retry_if,
-    push_u16s_if, push_u32s_if, push_why_if,
-};
-use wl_elem::Memory;
-use wl_history::{Command, Outcome, Step};
+use crate::object::Object;
+use std::alloc::Global;
+use wl_elem::{EndId, Lane, LinkId, Memory, Why};
+use wl_history::{Command, KeptWhy, Outcome, Step};
 use wl_number::Numbers;
 
-/// The line up to the end that acts.
-fn push_begin(out: &mut String, command: &Command, outcome: &Outcome) -> Result<(), Memory>
-    ensures { OnOk result (string_bytes out.new ≡ string_bytes out.old ++ begin_text command.now outcome.now) }
+/// The name of an end.
+fn end_text(end: EndId) -> &'static str
+    ensures { result.now ≡ end_name end }
 {
-    out.push_str("{")?;
-    push_count_if(out, count(outcome))?;
-    out.push_str("\"do\":\"")?;
-    out.push_str(command_text(command))?;
-    out.push_str("\",\"end\":\"")?;
-    out.push_str(end_text(acting_end(command)))?;
-    out.push_str("\"")?;
-    Ok(())
-}
-
-/// Adds the key of a booking.
-fn push_key(out: &mut String, numbers: Option<Numbers>) -> Result<(), Memory>
-    ensures { OnOk result (string_bytes out.new ≡ string_bytes out.old ++ key_field numbers) }
-{
-    match numbers {
-        Some(n) => {
-            out.push_str(",\"key\":")?;
-            push_number(out, u64::from(n.key))
-        }
-        None => Ok(()),
+    match end {
+        EndId::Ap => "ap",
+        EndId::Sta => "sta",
     }
 }
 
-/// Adds the packet number of a booking.
-fn push_pn(out: &mut String, numbers: Option<Numbers>) -> Result<(), Memory>
-    ensures { OnOk result (string_bytes out.new ≡ string_bytes out.old ++ pn_field numbers) }
+/// Why a booking was kept, as a word.
+fn kept_text(why: KeptWhy) -> &'static str
+    ensures { result.now ≡ kept_name why }
 {
-    match numbers {
-        Some(n) => {
-            out.push_str(",\"pn\":")?;
-            push_number(out, n.pn)
-        }
-        None => Ok(()),
+    match why {
+        KeptWhy::NotSetUp => "notsetup",
     }
 }
 
-/// The members between the end and the answer's name.
-fn push_middle(out: &mut String, command: &Command, outcome: &Outcome) -> Result<(), Memory>
-    ensures { OnOk result (string_bytes out.new ≡ string_bytes out.old ++ middle_text command.now outcome.now) }
+/// The name of a command.
+fn command_text(command: &Command) -> &'static str
+    ensures { result.now ≡ command_name command.now }
 {
-    push_key(out, numbers(outcome))?;
-    push_lane_if(out, answered_lane(outcome).or(asked_lane(command)))?;
-    push_number_if(out, ",\"link\":", link(command).map(u64::from))?;
-    push_nth_if(out, nth(command))?;
-    push_number_if(out, ",\"number\":", number(outcome).map(u64::from))
+    match command {
+        Command::Queue { .. } => "queue",
+        Command::Reserve { .. } => "reserve",
+        Command::Book { .. } => "book",
+        Command::Put { .. } => "put",
+        Command::Deliver { .. } => "deliver",
+        Command::AckOut { .. } => "ack_out",
+        Command::AckIn { .. } => "ack_in",
+    }
 }
 
-/// The answer's name, and the members up to the size of a body.
-fn push_answer(out: &mut String, outcome: &Outcome) -> Result<(), Memory>
-    ensures { OnOk result (string_bytes out.new ≡ string_bytes out.old ++ answer_field outcome.now) }
+/// The name of an answer.
+fn answer_text(outcome: &Outcome) -> &'static str
+    ensures { result.now ≡ answer_name outcome.now }
 {
-    out.push_str(",\"out\":\"")?;
-    out.push_str(answer_text(outcome))?;
-    out.push_str("\"")?;
-    push_number_if(out, ",\"place\":", place(outcome).map(u64::from))?;
-    push_pn(out, numbers(outcome))?;
-    push_number_if(out, ",\"pos\":", pos(outcome).map(u64::from))?;
-    push_retry_if(out, retry(outcome))
+    match outcome {
+        Outcome::Queued { .. } => "queued",
+        Outcome::Reserved => "reserved",
+        Outcome::HandFull => "handfull",
+        Outcome::NothingQueued => "nothingqueued",
+        Outcome::WindowFull => "windowfull",
+        Outcome::Booked { .. } => "booked",
+        Outcome::NoReserve => "noreserve",
+        Outcome::Spent { .. } => "spent",
+        Outcome::Put { .. } => "put",
+        Outcome::Kept { .. } => "kept",
+        Outcome::Nothing => "nothing",
+        Outcome::NotThere => "notthere",
+        Outcome::BadFrame { .. } => "badframe",
+        Outcome::LinkDown => "linkdown",
+        Outcome::Ignored => "ignored",
+        Outcome::NoKey => "nokey",
+        Outcome::NotOpened => "notopened",
+        Outcome::Replay => "replay",
+        Outcome::OldNumber => "oldnumber",
+        Outcome::Double => "double",
+        Outcome::Stored { .. } => "stored",
+        Outcome::Acked { .. } => "acked",
+        Outcome::OldAck => "oldack",
+        Outcome::Done { .. } => "done",
+    }
 }
 
-/// The members from the size of a body to the thread.
-fn push_stored(
-    out: &mut String,
-    thread: u16,
-    command: &Command,
-    outcome: &Outcome,
-) -> Result<(), Memory>
-    ensures { OnOk result (string_bytes out.new ≡ string_bytes out.old ++ stored_text thread command.now outcome.now) }
-{
-    push_number_if(out, ",\"size\":", size(command).map(|n| n as u64))?;
-    push_number_if(out, ",\"start\":", start(outcome).map(u64::from))?;
-    push_u16s_if(out, ",\"stored\":", stored(outcome))?;
-    out.push_str(",\"t\":")?;
-    push_number(out, u64::from(thread))
-}
+impl Object {
+    /// Puts the end that acts in.
+    fn put_end(&mut self, end: EndId) -> Result<(), Memory>
+        ensures { OnOk result (built self.new ≡ with_members (end_member end ∷ []) (built self.old)) }
+    {
+        self.put_text("end", end_text(end))
+    }
 
-/// The members behind the thread, and the line's end.
-fn push_end(out: &mut String, command: &Command, outcome: &Outcome) -> Result<(), Memory>
-    ensures { OnOk result (string_bytes out.new ≡ string_bytes out.old ++ end_text command.now outcome.now) }
-{
-    push_number_if(out, ",\"tid\":", tid(command).map(u64::from))?;
-    push_u32s_if(out, ",\"up\":", up(outcome))?;
-    push_why_if(out, why(outcome))?;
-    out.push_str("}\n")?;
-    Ok(())
-}
+    /// Puts a lane in: a TID by its number, management by its letter.
+    fn put_lane(&mut self, lane: Lane) -> Result<(), Memory>
+        ensures { OnOk result (built self.new ≡ with_members (lane_member lane ∷ []) (built self.old)) }
+    {
+        match lane {
+            Lane::Tid(tid) => self.put_number("lane", u64::from(tid.get())),
+            Lane::Management => self.put_text("lane", "m"),
+        }
+    }
 
-/// Adds all members of a step's line, and its end.
-fn push_fields(
-    out: &mut String,
-    thread: u16,
-    command: &Command,
-    outcome: &Outcome,
-) -> Result<(), Memory>
-    ensures { OnOk result (string_bytes out.new ≡ string_bytes out.old ++ fields_text thread command.now outcome.now) }
-{
-    push_begin(out, command, outcome)?;
-    push_middle(out, command, outcome)?;
-    push_answer(out, outcome)?;
-    push_stored(out, thread, command, outcome)?;
-    push_end(out, command, outcome)
-}
+    /// Puts a link in.
+    fn put_link(&mut self, link: LinkId) -> Result<(), Memory>
+        ensures { OnOk result (built self.new ≡ with_members (link_member link ∷ []) (built self.old)) }
+    {
+        self.put_number("link", u64::from(link.get()))
+    }
 
-/// Adds the line of a step.
-pub fn push_line(out: &mut String, step: &Step) -> Result<(), Memory>
-    ensures { OnOk result (string_bytes out.new ≡ string_bytes out.old ++ line step.now) }
-{
-    push_fields(out, step.thread, &step.command, &step.outcome)
+    /// Puts the number of a frame or an acknowledgement in; null stands for the latest.
+    fn put_nth(&mut self, nth: Option<u32>) -> Result<(), Memory>
+        ensures { OnOk result (built self.new ≡ put (codes "nth") (nth_data nth) (built self.old)) }
+    {
+        match nth {
+            Some(n) => self.put_number("nth", u64::from(n)),
+            None => self.put_null("nth"),
+        }
+    }
+
+    /// Puts the numbers of a booking in.
+    fn put_booking(&mut self, lane: Lane, numbers: Numbers) -> Result<(), Memory>
+        ensures { OnOk result (built self.new ≡ with_members (booking_members lane numbers) (built self.old)) }
+    {
+        self.put_lane(lane)?;
+        self.put_number("pos", u64::from(numbers.pos))?;
+        self.put_number("key", u64::from(numbers.key))?;
+        self.put_number("pn", numbers.pn)
+    }
+
+    /// Puts the booking that was kept in, and why.
+    fn put_kept(&mut self, lane: Lane, pos: u32, why: KeptWhy) -> Result<(), Memory>
+        ensures { OnOk result (built self.new ≡ with_members (answer_members (Kept lane pos why)) (built self.old)) }
+    {
+        self.put_lane(lane)?;
+        self.put_number("pos", u64::from(pos))?;
+        self.put_text("why", kept_text(why))
+    }
+
+    /// Puts in why octets were refused, and where.
+    fn put_refusal(&mut self, why: Why, place: u32) -> Result<(), Memory>
+        ensures { OnOk result (built self.new ≡ with_members (answer_members (BadFrame why place)) (built self.old)) }
+    {
+        self.put_text("why", why.name())?;
+        self.put_number("place", u64::from(place))
+    }
+
+    /// Puts what is shown of a command in.
+    fn put_command(&mut self, command: &Command) -> Result<(), Memory>
+        ensures { OnOk result (built self.new ≡ with_members (command_members command.now) (built self.old)) }
+    {
+        match command {
+            Command::Queue { end, tid, body } => {
+                self.put_end(*end)?;
+                self.put_number("tid", u64::from(tid.get()))?;
+                self.put_number("size", body.as_slice().len() as u64)
+            }
+            Command::Reserve { end, lane } => {
+                self.put_end(*end)?;
+                self.put_lane(*lane)
+            }
+            Command::Book { end } => self.put_end(*end),
+            Command::Put { end, link } => {
+                self.put_end(*end)?;
+                self.put_link(*link)
+            }
+            Command::Deliver { end, link, nth } => {
+                self.put_end(*end)?;
+                self.put_link(*link)?;
+                self.put_nth(*nth)
+            }
+            Command::AckOut { end, lane } => {
+                self.put_end(*end)?;
+                self.put_lane(*lane)
+            }
+            Command::AckIn { end, nth } => {
+                self.put_end(*end)?;
+                self.put_nth(*nth)
+            }
+        }
+    }
+
+    /// Puts what is shown of an answer in.
+    fn put_answer(&mut self, outcome: &Outcome) -> Result<(), Memory>
+        ensures { OnOk result (built self.new ≡ with_members (answer_members outcome.now) (built self.old)) }
+    {
+        match outcome {
+            Outcome::Queued { pos } => self.put_number("pos", u64::from(*pos)),
+            Outcome::Booked { lane, numbers } => self.put_booking(*lane, *numbers),
+            Outcome::Spent { lane } => self.put_lane(*lane),
+            Outcome::Put {
+                lane,
+                numbers,
+                retry,
+            } => {
+                self.put_bool("retry", *retry)?;
+                self.put_booking(*lane, *numbers)
+            }
+            Outcome::Kept { lane, pos, why } => self.put_kept(*lane, *pos, *why),
+            Outcome::BadFrame { why, place } => self.put_refusal(*why, *place),
+            Outcome::Stored {
+                lane,
+                number,
+                up,
+                ..
+            } => {
+                self.put_lane(*lane)?;
+                self.put_number("number", u64::from(*number))?;
+                self.put_u32s("up", up.as_slice())
+            }
+            Outcome::Acked { start, stored } => {
+                self.put_number("start", u64::from(*start))?;
+                self.put_u16s("stored", stored.as_slice())
+            }
+            Outcome::Done { count } => self.put_number("count", u64::from(*count)),
+            _ => Ok(()),
+        }
+    }
+
+    /// What is shown of a step: its thread, the command and the answer, each with its members.
+    #[tactic(auto, using(crate::proofs::Members::merged))]
+    pub fn of_step(alloc: Global, step: &Step) -> Result<Object, Memory>
+        ensures { IfOk result (λ o. object (built o) ≡ step_data step.now) }
+    {
+        let mut line = Object::new(alloc);
+        line.put_number("t", u64::from(step.thread))?;
+        line.put_text("do", command_text(&step.command))?;
+        line.put_text("out", answer_text(&step.outcome))?;
+        line.put_command(&step.command)?;
+        line.put_answer(&step.outcome)?;
+        Ok(line)
+    }
 }

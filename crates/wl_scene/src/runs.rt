@@ -1,35 +1,20 @@
-//! Writing positions as runs.
+//! Positions as the runs that they make.
 
-ghost use Rattle.std.specs.Prelude.{◌≡◌, ◌++◌, ◌∷◌, ◌==◌, suc, ℕ, List, OnOk, IfOk, length, ◌<◌};
-ghost use Rattle.std.specs.String.{string_bytes};
-ghost use Rattle.wl_scene.specs.Report.{run, runs};
-ghost use Rattle.wl_scene.specs.ReportFields.{run_text, runs_text, open_text};
-ghost use Rattle.wl_scene.specs.Fields.{comma};
+ghost use Rattle.std.specs.Prelude.{◌≡◌, ◌++◌, ◌∷◌, ◌==◌, [], suc, ℕ, List, map, OnOk, IfOk};
+ghost use Rattle.serde_json.specs.View.{view, items_view};
+ghost use Rattle.wl_scene.specs.Report.{run, runs_from, runs, run_data, runs_data};
 
-use crate::write::{push_comma, push_number};
+use serde_json::Value;
+use std::alloc::Global;
 use wl_elem::Memory;
 
-/// The run that is written next, once a position that doesn't follow it comes.
-#[derive(Clone, Copy, Debug, PartialEq, Eq)]
+/// The run that is added next, once a position that doesn't follow it comes.
+#[derive(Clone, Copy)]
 pub struct Open {
-    /// Whether a run stands before it.
-    pub later: bool,
     /// Its first position.
     pub first: u32,
     /// Its last position so far.
     pub last: u32,
-}
-
-/// Adds a run.
-fn push_run(out: &mut String, first: u32, last: u32) -> Result<(), Memory>
-    ensures { OnOk result (string_bytes out.new ≡ string_bytes out.old ++ run_text (run first last)) }
-{
-    out.push_str("[")?;
-    push_number(out, u64::from(first))?;
-    out.push_str(",")?;
-    push_number(out, u64::from(last))?;
-    out.push_str("]")?;
-    Ok(())
 }
 
 /// Whether a position comes directly behind another.
@@ -39,48 +24,52 @@ fn follows(last: u32, pos: u32) -> bool
     last < pos && pos - last == 1
 }
 
-/// Adds the open run behind a comma where another stands before it.
-fn push_open(out: &mut String, begun: Open) -> Result<(), Memory>
-    ensures { OnOk result (string_bytes out.new ≡ string_bytes out.old ++ (comma begun.later ++ run_text (run begun.first begun.last))) }
+/// A run as the list of its first and its last position.
+fn pair(alloc: Global, begun: Open) -> Result<Value, Memory>
+    ensures { IfOk result (λ value. view value ≡ run_data (run begun.first begun.last)) }
 {
-    push_comma(out, begun.later)?;
-    push_run(out, begun.first, begun.last)
+    let mut ends = Vec::with_capacity(alloc, 2)?;
+    ends.push(Value::from(begun.first))?;
+    ends.push(Value::from(begun.last))?;
+    Ok(Value::from(ends))
 }
 
-/// Takes the next position: into the open run where it follows it, else the open run is written and
-/// the position opens the next. Answers the run that is open then.
-fn next(out: &mut String, begun: Open, pos: u32) -> Result<Open, Memory>
-    ensures { IfOk result (λ after. (ps : List ℕ) → string_bytes out.new ++ open_text after ps ≡ string_bytes out.old ++ open_text begun (pos ∷ ps)) }
+/// Adds a run.
+fn push_run(alloc: Global, values: &mut Vec<Value>, begun: Open) -> Result<(), Memory>
+    ensures { OnOk result (map view values.new.items ≡ map view values.old.items ++ run_data (run begun.first begun.last) ∷ []) }
+{
+    let value = pair(alloc, begun)?;
+    values.push(value)?;
+    Ok(())
+}
+
+/// Takes the next position: into the open run where it follows it, else the open run is added and the
+/// position opens the next. Answers the run that is open then.
+fn next(alloc: Global, values: &mut Vec<Value>, begun: Open, pos: u32) -> Result<Open, Memory>
+    ensures { IfOk result (λ after. (ps : List ℕ) → map view values.new.items ++ map run_data (runs_from after.first after.last ps) ≡ map view values.old.items ++ map run_data (runs_from begun.first begun.last (pos ∷ ps))) }
 {
     if follows(begun.last, pos) {
         return Ok(Open {
-            later: begun.later,
             first: begun.first,
             last: pos,
         });
     }
-    push_open(out, begun)?;
+    push_run(alloc, values, begun)?;
     Ok(Open {
-        later: true,
         first: pos,
         last: pos,
     })
 }
 
-/// Adds positions that aren't none as the list of their maximal runs, each by its first and its last.
-pub fn push_runs(out: &mut String, first: u32, rest: &[u32]) -> Result<(), Memory>
-    ensures { OnOk result (string_bytes out.new ≡ string_bytes out.old ++ runs_text (runs (first ∷ rest.now))) }
+/// The maximal runs of positions that aren't none.
+pub fn of_runs(alloc: Global, first: u32, rest: &[u32]) -> Result<Vec<Value>, Memory>
+    ensures { IfOk result (λ values. items_view values.items ≡ runs_data (runs (first ∷ rest.now))) }
 {
-    out.push_str("[")?;
-    let mut begun = Open {
-        later: false,
-        first,
-        last: first,
-    };
+    let mut values = Vec::new(alloc);
+    let mut begun = Open { first, last: first };
     'positions: for pos in rest {
-        begun = next(out, begun, *pos)?;
+        begun = next(alloc, &mut values, begun, *pos)?;
     }
-    push_open(out, begun)?;
-    out.push_str("]")?;
-    Ok(())
+    push_run(alloc, &mut values, begun)?;
+    Ok(values)
 }

@@ -1,10 +1,10 @@
 //! Both windows of a block ack agreement: the recipient's reordering and the originator's positions.
 #![tactic(auto)]
 
+mod distance;
 mod laws;
 mod mark;
 mod marks;
-mod numbering;
 mod numbers12;
 mod origin;
 mod refusal;

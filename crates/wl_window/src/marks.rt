@@ -4,8 +4,8 @@ ghost use Rattle.std.specs.Prelude.{◌≡◌, ◌==◌, ◌+◌, ◌-◌, ◌^�
 ghost use Rattle.std.specs.VecDeque.{deque_len, deque_capacity};
 ghost use Rattle.wl_window.specs.Originating.{book_at, free_mark, open_mark, done_mark, booked_mark, has_free, finished, newly, names, settled, Sending, TakesDone};
 
+use crate::distance::distance_to;
 use crate::mark::Mark;
-use crate::numbering::distance_to;
 use std::collections::VecDeque;
 use wl_elem::Memory;
 

@@ -2,11 +2,11 @@
 
 ghost use Rattle.std.specs.Prelude.{◌≡◌, ◌+◌, ◌-◌, ◌^◌, ◌<◌, ◌≤◌, ℕ, Bool, true, false, [], length, IsOk, OnOk, OnErr};
 
+use crate::distance::distance_to;
 use crate::mark::Mark;
 use crate::marks::{
     book, finish_below, finish_named, is_booked, is_done, lacks, mark_at, reserve_marks, settle,
 };
-use crate::numbering::distance_to;
 use crate::refusal::{MoveRefusal, OriginRefusal};
 use std::alloc::Global;
 use std::collections::VecDeque;

@@ -8,7 +8,7 @@ ghost use Rattle.wl_window.specs.Queue.{received};
 ghost use Rattle.wl_window.specs.Placing.{IsGap, Takes};
 ghost use Rattle.wl_window.specs.Reordering.{holds, IsRising, advanced};
 
-use crate::numbering::distance_to;
+use crate::distance::distance_to;
 use crate::numbers12::Numbers12;
 use crate::refusal::ArriveRefusal;
 use crate::slot::Slot;

@@ -2,9 +2,10 @@ use Rattle.std.proofs.Common.{◌≡◌, List, [], length, refl}
 use Rattle.wl_elem.specs.declared.lane.EndId.TheVariants.{Ap, Sta}
 use Rattle.wl_history.specs.declared.start.Start.{Start}
 use Rattle.wl_history.specs.declared.step.Step.{Step}
-use Rattle.wl_air.specs.Air.{AirState, begun}
+use Rattle.wl_history.specs.AirState.{AirState, begun}
 use Rattle.wl_air.specs.World.{IsWorld, Stands, world_of}
-use Rattle.wl_air.proofs.Begun.{begun_world, so_begun}
+use Rattle.wl_air.proofs.Bounds.{begun_world}
+use Rattle.wl_air.proofs.Worlds.{so_begun, begun_stands}
 use Rattle.wl_air.proofs.world.World.new.Goals as goal
 
 pub new-requires-clause-ap : goal.new-requires-clause-ap
@@ -23,4 +24,4 @@ returns-clause-begun c =
 
 pub returns-clause-stands : goal.returns-clause-stands
 returns-clause-stands c text =
-    so_begun (λ (start : Start) (a : AirState) (steps : List Step). Stands text (world_of start a steps)) c.args.start.now c.in_ok-kept.kept c.in_ok-air.air c.new-2.result c.in_ok-kept.ensures c.in_ok-air.ensures.begun c.new-2.ensures (c.the_start_stands.ensures text c.args.start.now)
+    so_begun (λ (start : Start) (a : AirState) (steps : List Step). Stands text (world_of start a steps)) c.args.start.now c.in_ok-kept.kept c.in_ok-air.air c.new-2.result c.in_ok-kept.ensures c.in_ok-air.ensures.begun c.new-2.ensures (begun_stands text c.args.start.now c.requires)

@@ -6,7 +6,6 @@ use Rattle.wl_history.specs.Hands.{hand_of}
 use Rattle.wl_history.specs.Sender.{IsHeld}
 use Rattle.wl_history.specs.EndState.{EndState, LaneState, IsEnd, with_frame, with_hand}
 use Rattle.wl_end.specs.contracts.end.End.{the_view}
-use Rattle.wl_end.proofs.Booking.{aired_so}
 use Rattle.wl_end.proofs.end.End.air.Goals as goal
 use Rattle.wl_end.proofs.end.End.air.Goals.{After-replace, After-test_lane}
 
@@ -34,7 +33,7 @@ kept g c =
     let octets = c.in_ok-octets.octets in
     let t = with_hand c.args.thread Empty (with_frame c.args.link octets lane n s) in
     let held : hand_of s.hands c.args.thread ≡ Booking lane n = ap (λ (e : EndState). hand_of e.hands c.args.thread) c.self.view_is ∙ c.requires.held in
-    let sound : IsEnd t = aired_so c.sender_stays.ensures c.sender_gives_back.ensures s c.args.thread lane n c.args.link octets c.self.invariant.sound c.test_lane.ensures.bound held in
+    let sound : IsEnd t = c.an_end_keeps.ensures.air s c.args.thread lane n c.args.link octets c.self.invariant.sound held in
     let made = λ (l : List LaneState) (h : List Hand) (f : List (List (List ℕ))). let e : EndState = record s { lanes = l; hands = h; frames = f } in e in
     subst (λ (l : List LaneState). IsEnd (made l c.replace.new.self.hands c.push.new.self)) (sym c.air.ensures)
     (subst (λ (h : List Hand). IsEnd (made t.lanes h c.push.new.self)) (sym c.replace.ensures.hands)

@@ -10,7 +10,7 @@ use Rattle.wl_history.specs.declared.outcome.Outcome.TheVariants as outcomes
 use Rattle.wl_history.specs.Hands.{hand_of, set_hand}
 use Rattle.wl_history.specs.EndState.{EndState, LaneState, IsEnd, lane_at, with_sending, after_book}
 use Rattle.wl_end.specs.contracts.end.End.{the_view}
-use Rattle.wl_end.proofs.Booking.{some_to_book, next_is_queued, next_is_free, draw_breaks_none, booked_so}
+use Rattle.wl_end.proofs.Booking.{some_to_book, next_is_queued, next_is_free, draw_breaks_none}
 use Rattle.wl_end.proofs.end.End.draw.Goals as goal
 use Rattle.wl_end.proofs.end.End.draw.Goals.{After-replace, After-position-pos, After-reserve}
 
@@ -65,7 +65,7 @@ left c =
 kept : (c : After-replace) → IsEnd (the_view (record c.self.inside { lanes = c.book.new.self; hands = c.replace.new.self; numbers = c.next_of-n.new.numbers; booked = c.enter.new.booked }))
 kept c =
     let s = the_view c.self.inside in
-    subst IsEnd (sym (left c)) (booked_so c.sender_stays.ensures c.sender_books.ensures c.a_draw_is_next.ensures.enters s c.args.thread c.args.lane.now c.self.invariant.sound c.test_lane.ensures.bound (ap (λ (e : EndState). hand_of e.hands c.args.thread) c.self.view_is ∙ c.requires.held))
+    subst IsEnd (sym (left c)) (c.an_end_keeps.ensures.book s c.args.thread c.args.lane.now c.self.invariant.sound (ap (λ (e : EndState). hand_of e.hands c.args.thread) c.self.view_is ∙ c.requires.held))
 
 pub invariant_of-self-2 : goal.invariant_of-self-2
 invariant_of-self-2 c = let all = (goal.at.invariant_of-self-2 c).After-replace in record { sound = kept all; some_window = c.self.invariant.some_window; no_more = c.self.invariant.no_more }

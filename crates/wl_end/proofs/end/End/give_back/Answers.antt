@@ -5,7 +5,7 @@ use Rattle.wl_history.specs.declared.outcome.Outcome.TheVariants as outcomes
 use Rattle.wl_history.specs.Hands.{hand_of}
 use Rattle.wl_history.specs.EndState.{EndState, LaneState, IsEnd, after_book}
 use Rattle.wl_end.specs.contracts.end.End.{the_view}
-use Rattle.wl_end.proofs.Booking.{some_to_book, given_back}
+use Rattle.wl_end.proofs.Booking.{some_to_book}
 use Rattle.wl_end.proofs.end.End.give_back.Goals as goal
 use Rattle.wl_end.proofs.end.End.give_back.Goals.{After-replace}
 
@@ -25,7 +25,7 @@ kept : (c : After-replace) → IsEnd (the_view (record c.self.inside { lanes = c
 kept c =
     let s = the_view c.self.inside in
     let held : hand_of s.hands c.args.thread ≡ Reserve c.args.lane.now = ap (λ (e : EndState). hand_of e.hands c.args.thread) c.self.view_is ∙ c.requires in
-    subst IsEnd (sym (left c)) (given_back c.sender_stays.ensures c.sender_gives_back.ensures s c.args.thread c.args.lane.now c.self.invariant.sound c.test_lane.ensures.bound held)
+    subst IsEnd (sym (left c)) (c.an_end_keeps.ensures.give_back s c.args.thread c.args.lane.now c.self.invariant.sound held)
 
 pub invariant_of-self : goal.invariant_of-self
 invariant_of-self c = let all = (goal.at.invariant_of-self c).After-replace in record { sound = kept all; some_window = c.self.invariant.some_window; no_more = c.self.invariant.no_more }

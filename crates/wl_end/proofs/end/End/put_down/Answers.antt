@@ -13,7 +13,7 @@ kept c =
     let s = the_view c.self.inside in
     let held : is_booking (hand_of s.hands c.args.thread) ≡ true = ap (λ (e : EndState). is_booking (hand_of e.hands c.args.thread)) c.self.view_is ∙ c.requires in
     let made = λ (h : List Hand). let e : EndState = record s { hands = h } in e in
-    subst IsEnd (sym (ap made c.replace.ensures.hands)) (any_put_down c.sender_gives_back.ensures s c.args.thread c.self.invariant.sound held)
+    subst IsEnd (sym (ap made c.replace.ensures.hands)) (any_put_down c.an_end_keeps.ensures.put_down s c.args.thread c.self.invariant.sound held)
 
 pub invariant_of-self : goal.invariant_of-self
 invariant_of-self c = let all = (goal.at.invariant_of-self c).After-replace in record { sound = kept all; some_window = c.self.invariant.some_window; no_more = c.self.invariant.no_more }

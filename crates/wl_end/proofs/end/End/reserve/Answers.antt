@@ -6,7 +6,7 @@ use Rattle.wl_history.specs.declared.hand.Hand.TheVariants.{Empty, Reserve}
 use Rattle.wl_history.specs.Hands.{hand_of, set_hand}
 use Rattle.wl_history.specs.EndState.{EndState, LaneState, IsEnd, lane_at, with_hand, with_sending, with_lane}
 use Rattle.wl_end.specs.contracts.end.End.{the_view}
-use Rattle.wl_end.proofs.Keeping.{reserve_kept, granted_is, one_more}
+use Rattle.wl_end.proofs.Keeping.{granted_is, one_more}
 use Rattle.wl_end.proofs.end.End.reserve.Goals as goal
 use Rattle.wl_end.proofs.end.End.reserve.Goals.{After-set}
 
@@ -34,7 +34,7 @@ kept c =
     let s = the_view c.self.inside in
     let empty : hand_of s.hands c.args.thread ≡ Empty = sym c.get.ensures ∙ c.in-Empty.is in
     subst IsEnd (sym (left c))
-    (reserve_kept c.sender_stays.ensures c.sender_reserves.ensures s c.args.thread c.args.lane c.self.invariant.sound c.test_lane.ensures.data c.test_lane.ensures.bound empty (granted c).1)
+    (c.an_end_keeps.ensures.reserve s c.args.thread c.args.lane c.self.invariant.sound c.test_lane.ensures.data empty (granted c).1)
 
 pub invariant_of-self-2 : goal.invariant_of-self-2
 invariant_of-self-2 c = let all = (goal.at.invariant_of-self-2 c).After-set in record { sound = kept all; some_window = c.self.invariant.some_window; no_more = c.self.invariant.no_more }

@@ -1,5 +1,0 @@
-use Rattle.std.proofs.Common.{append_assoc}
-use Rattle.wl_scene.proofs.report.push_map.Goals as goal
-
-pub returns : goal.returns
-returns c = rw (c.in_ok-push_str-3.ensures.bytes, c.in_ok-push_sets-2.ensures, c.in_ok-push_str-2.ensures.bytes, c.in_ok-push_sets.ensures, c.in_ok-push_str.ensures.bytes) (simp append_assoc)

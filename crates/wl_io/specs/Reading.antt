@@ -2,7 +2,6 @@
 use Rattle.std.specs.Prelude.{◌≡◌, ℕ, ◌+◌, ◌<◌, List, [], length, drop, Option, Some, None}
 use Rattle.wl_io.specs.Faults.{Rose}
 use Rattle.wl_io.specs.Seen.{Seen, IsUnharmed}
-use Rattle.wl_io.specs.Source.{HandsSome}
 use Rattle.wl_io.specs.declared.read.ReadFault.{ReadFault}
 use Rattle.wl_io.specs.declared.read.ReadFault.TheVariants.{Failed, TooLong, Memory}
 
@@ -23,6 +22,6 @@ IsTooLong None new = Unit {0}
 -- Why no bytes were answered. The count of faults rose where a read failed, and only there. Want of
 -- memory has no cause.
 abbrev pub IsReadFault : Seen → ReadFault → Type 0
-IsReadFault source Failed = Rose source.faults source.faults' × HandsSome source.bytes source.bytes'
+IsReadFault source Failed = Rose source.faults source.faults'
 IsReadFault source (TooLong count) = (count ≡ read_limit + 1) × IsTooLong source.bytes source.bytes' × IsUnharmed source
-IsReadFault source Memory = HandsSome source.bytes source.bytes' × IsUnharmed source
+IsReadFault source Memory = IsUnharmed source

@@ -3,6 +3,7 @@
 ghost use Rattle.std.specs.Prelude.{◌≡◌, ◌≤◌, ◌<◌, [], length, IfOk, IfErr, OnOk};
 ghost use Rattle.wl_io.specs.Reading.{AreAll, IsReadFault, read_limit};
 ghost use Rattle.wl_io.specs.Seen.{seen};
+ghost use Rattle.wl_io.specs.Source.{HandsSome};
 ghost use Rattle.wl_io.specs.declared.read.ReadFault.TheVariants.{Failed, Memory};
 
 use crate::traits::{self, Source};
@@ -54,9 +55,11 @@ impl From<AllocError> for ReadFault {
 ///
 /// It stops at the first byte above the limit, so the count of `TooLong` is the limit and one.
 /// `Failed` comes only where the source's count of faults rose, and every other answer, Ok too, leaves
-/// that count as it was.
+/// that count as it was. Whatever is answered, what is left in the source is the rest behind what was
+/// read.
 pub fn read_all<S: Source>(alloc: Global, source: &mut S) -> Result<Bytes, ReadFault>
     ensures count { S.faults source.old ≤ S.faults source.new }
+    ensures rest { HandsSome (S.left source.old) (S.left source.new) }
     ensures bound { IfOk result (λ bytes. length bytes ≤ read_limit) }
     ensures all { IfOk result (λ bytes. AreAll (S.left source.old) (S.left source.new) bytes) }
     ensures unharmed { OnOk result (S.faults source.new ≡ S.faults source.old) }
@@ -77,6 +80,7 @@ fn read_rest<S: Source>(
     requires room { 0 < length chunk.old }
     requires none { bytes.old ≡ [] }
     ensures count { S.faults source.old ≤ S.faults source.new }
+    ensures rest { HandsSome (S.left source.old) (S.left source.new) }
     ensures bound { OnOk result (length bytes.new ≤ read_limit) }
     ensures all { OnOk result (AreAll (S.left source.old) (S.left source.new) bytes.new) }
     ensures unharmed { OnOk result (S.faults source.new ≡ S.faults source.old) }

@@ -21,9 +21,9 @@ module _ (source sink : Seen) where
   decode_counts Done (shown, (input, is_input, h), written) = (is_input.2, written.1)
   decode_counts (Refused line) (input, is_input, h, untouched) = (is_input.2, untouched.1)
   decode_counts (WriteFault count) (shown, (input, is_input, h), fault) = (is_input.2, fault.0)
-  decode_counts ReadFault (rose, untouched) = (rose, untouched.1)
+  decode_counts ReadFault (rose, some, untouched) = (rose, untouched.1)
   decode_counts (TooLong count) (many, long, unharmed, untouched) = (unharmed, untouched.1)
-  decode_counts Memory (unharmed, untouched) = (unharmed, untouched.1)
+  decode_counts Memory (unharmed, some, untouched) = (unharmed, untouched.1)
   decode_counts other ends = absurd ends
 
   check_counts : (e : Ending) → CheckEnds source sink e → Counts e
@@ -31,9 +31,9 @@ module _ (source sink : Seen) where
   check_counts (CheckFailed line) (verdicts, (input, is_input, h), written) = (is_input.2, written.1)
   check_counts (Refused line) (input, is_input, h, untouched) = (is_input.2, untouched.1)
   check_counts (WriteFault count) (verdicts, refused, (input, is_input, h), fault) = (is_input.2, fault.0)
-  check_counts ReadFault (rose, untouched) = (rose, untouched.1)
+  check_counts ReadFault (rose, some, untouched) = (rose, untouched.1)
   check_counts (TooLong count) (many, long, unharmed, untouched) = (unharmed, untouched.1)
-  check_counts Memory (unharmed, untouched) = (unharmed, untouched.1)
+  check_counts Memory (unharmed, some, untouched) = (unharmed, untouched.1)
   check_counts other ends = absurd ends
 
   run_counts : (text : Sealing) (journal : Option Journal) (e : Ending) → RunEnds source sink text journal e → Counts e
@@ -41,9 +41,9 @@ module _ (source sink : Seen) where
   run_counts text journal (Forged count) (out, r, written) = (r.is_input.2, written.1)
   run_counts text journal (Refused place) (input, is_input, h, untouched, none) = (is_input.2, untouched.1)
   run_counts text journal (WriteFault count) (ending, out, r, fault) = (r.is_input.2, fault.0)
-  run_counts text journal ReadFault ((rose, untouched), none) = (rose, untouched.1)
+  run_counts text journal ReadFault ((rose, some, untouched), none) = (rose, untouched.1)
   run_counts text journal (TooLong count) ((many, long, unharmed, untouched), none) = (unharmed, untouched.1)
-  run_counts text journal Memory (unharmed, untouched, h) = (unharmed, untouched.1)
+  run_counts text journal Memory (unharmed, some, untouched, h) = (unharmed, untouched.1)
   run_counts text journal other ends = absurd ends.0
 
   task_counts : (words : List (List ℕ)) (text : Sealing) (journal : Option Journal) (e : Ending)

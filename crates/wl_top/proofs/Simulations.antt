@@ -1,8 +1,8 @@
 -- Histories of scenarios, and their texts.
-use Rattle.std.proofs.Common.{◌≡◌, ℕ, List, [], ◌∷◌, length, Ok, sym, subst, ◌∙◌, inl, inr}
+use Rattle.std.proofs.Common.{◌≡◌, ℕ, List, [], ◌∷◌, Result, Ok, Err, sym, subst, ◌∙◌, inl, inr}
+use Rattle.std.specs.Prelude.{OnOk, IfErr}
 use Rattle.std.specs.List.{AllByRecursion}
 use Rattle.wl_frame.specs.Sealing.{Sealing}
-use Rattle.wl_history.specs.declared.opened.Opened.{Opened}
 use Rattle.wl_history.specs.declared.script.Item.{Item}
 use Rattle.wl_history.specs.declared.script.Item.TheVariants.{Once}
 use Rattle.wl_history.specs.declared.script.Plain.TheVariants.{Do, Send}
@@ -10,16 +10,16 @@ use Rattle.wl_history.specs.declared.start.Start.{Start}
 use Rattle.wl_history.specs.declared.step.Journal.{Journal}
 use Rattle.wl_history.specs.declared.step.Step.{Step}
 use Rattle.wl_history.specs.Legal.{Legal}
-use Rattle.wl_history.specs.Runs.{Plays, Stops}
+use Rattle.wl_history.specs.Runs.{Plays}
 use Rattle.wl_history.specs.Safe.{Safe}
+use Rattle.wl_air.specs.declared.fault.StepFault.{StepFault}
 use Rattle.wl_air.specs.Playing as air
 use Rattle.wl_air.specs.World.{WorldState, Stands}
 use Rattle.wl_scene.specs.declared.scenario.Scenario.{Scenario}
 use Rattle.wl_scene.specs.Scene.{SceneOf}
 use Rattle.wl_scene.specs.Sound as scene
 use Rattle.wl_top.specs.declared.ending.Ending.{Ending}
-use Rattle.wl_top.specs.declared.ending.Ending.TheVariants.{Done, Forged}
-use Rattle.wl_top.specs.Simulated.{HasRun, IsOutput, IsHalf, IsWhole, IsSafe}
+use Rattle.wl_top.specs.Simulated.{HasRun, IsOutput, IsHalf, IsWhole, IsSafe, PlayedTo}
 
 -- the commands of a scenario are within the limits of a world
 item_fits : (start : Start) (item : Item) → scene.ItemFits start item → air.ItemFits start item
@@ -72,19 +72,18 @@ half_of text s input ending w journal read is run k = record { scene = s; is_sce
 
 -- ---- what a script made of a world that did nothing yet
 
-from_none : (P : List Step → Type 0) (w : WorldState) → w.steps ≡ [] → P w.steps → P []
-from_none P w none p = subst P none p
+at_start : (P : Start → List Step → Type 0) (w : WorldState) (s : Scenario) → w.start ≡ s.start → w.steps ≡ [] → P w.start w.steps → P s.start []
+at_start P w s is none p = subst (λ (x : Start). P x []) is (subst (λ (b : List Step). P w.start b) none p)
 
-pub done_of : (text : Sealing) (s : Scenario) (w w' : WorldState) → w.start ≡ s.start → w.steps ≡ [] → Plays text w.start s.before w.steps w'.steps → HasRun text s Done w'.steps
-done_of text s w w' is none plays = subst (λ (x : Start). Plays text x s.before [] w'.steps) is (from_none (λ b. Plays text w.start s.before b w'.steps) w none plays)
+pub played_to : (text : Sealing) (s : Scenario) (w w' : WorldState) (played : Result (Unit {0}) StepFault) → w.start ≡ s.start → w.steps ≡ [] → Stands text w
+    → OnOk played (Stands text w → Plays text w.start s.before w.steps w'.steps) → IfErr played (λ fault. Stands text w → air.ScriptFault text w.start s.before w.steps w'.steps fault) → PlayedTo text s w'.steps played
+played_to text s w w' (Ok done) is none stands ok err = at_start (λ (x : Start) (b : List Step). Plays text x s.before b w'.steps) w s is none (ok stands)
+played_to text s w w' (Err fault) is none stands ok err = at_start (λ (x : Start) (b : List Step). air.ScriptFault text x s.before b w'.steps fault) w s is none (err stands)
 
-pub forged_of : (text : Sealing) (s : Scenario) (w w' : WorldState) (opened : Opened) (count : ℕ) → w.start ≡ s.start → w.steps ≡ [] → count ≡ length w'.steps → Stops text w.start s.before w.steps w'.steps opened → HasRun text s (Forged count) w'.steps
-forged_of text s w w' opened count is none many stops = (opened, subst (λ (x : Start). Stops text x s.before [] w'.steps opened) is (from_none (λ b. Stops text w.start s.before b w'.steps opened) w none stops), many)
-
-pub reached_of : (text : Sealing) (s : Scenario) (input : List ℕ) (w w' : WorldState) (journal : Journal) → SceneOf input (Ok s) → w.start ≡ s.start → w'.start ≡ w.start → w.steps ≡ [] → Kept w' journal → air.Reaches text w.start s.before w.steps w'.steps → IsHalf text input journal
-reached_of text s input w w' journal read is same none k reaches = record {
+pub reached_of : (text : Sealing) (s : Scenario) (input : List ℕ) (w : WorldState) (journal : Journal) → SceneOf input (Ok s) → w.start ≡ s.start → Kept w journal → air.Reaches text s.start s.before [] w.steps → IsHalf text input journal
+reached_of text s input w journal read is k reaches = record {
   scene = s;
   is_scene = read;
-  start_is = k.start_is ∙ same ∙ is;
-  come = inr (subst (λ (x : List Step). air.Reaches text s.start s.before [] x) (sym k.steps_are) (subst (λ (x : Start). air.Reaches text x s.before [] w'.steps) is (from_none (λ b. air.Reaches text w.start s.before b w'.steps) w none reaches)));
+  start_is = k.start_is ∙ is;
+  come = inr (subst (λ (x : List Step). air.Reaches text s.start s.before [] x) (sym k.steps_are) reaches);
 }

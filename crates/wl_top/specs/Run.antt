@@ -2,6 +2,7 @@
 use Rattle.std.specs.Prelude.{◌≡◌, ◌≢◌, ℕ, ◌+◌, ◌≤◌, ◌⊎◌, List, [], ◌∷◌, length, Option, Some, None, codes, Err}
 use Rattle.wl_io.specs.Faults.{Rose}
 use Rattle.wl_io.specs.Seen.{Seen, IsUnharmed, IsUntouched}
+use Rattle.wl_io.specs.Source.{HandsSome}
 use Rattle.wl_io.specs.Reading.{AreAll, IsTooLong, read_limit}
 use Rattle.wl_io.specs.Writing.{IsWritten, IsWriteFault}
 use Rattle.wl_io.specs.declared.read.ReadFault.{ReadFault}
@@ -17,7 +18,9 @@ use Rattle.wl_top.specs.declared.run.Task.TheVariants.{Decode, Check, Simulate}
 use Rattle.wl_shown.specs.Line.{lines_of}
 use Rattle.wl_shown.specs.Decoded.{ShownLines, IsFirstBad}
 use Rattle.wl_shown.specs.Checked.{VerdictLines}
-use Rattle.wl_top.specs.Simulated.{IsHalfIf, IsWhole}
+use Rattle.wl_top.specs.declared.simulate.Simulated.{Simulated}
+use Rattle.wl_top.specs.declared.simulate.Simulated.TheVariants as simulated
+use Rattle.wl_top.specs.Simulated.{IsHalf, IsWhole}
 
 -- the word of a command
 abbrev pub task_word : Task → List ℕ
@@ -45,11 +48,12 @@ outcome_of Memory journal = record { status = 9; place = 0; journal = journal }
 abbrev pub IsInput : Seen → List ℕ → Type 0
 IsInput source text = AreAll source.bytes source.bytes' text × (length text ≤ read_limit) × IsUnharmed source
 
--- Why no input was read; nothing was written then. Want of memory has no cause.
+-- Why no input was read; nothing was written then, and what is left in the source is the rest behind
+-- what was read. Want of memory has no cause.
 abbrev pub UnreadEnds : Seen → Seen → Ending → Type 0
-UnreadEnds source sink EndsReadFault = Rose source.faults source.faults' × IsUntouched sink
+UnreadEnds source sink EndsReadFault = Rose source.faults source.faults' × HandsSome source.bytes source.bytes' × IsUntouched sink
 UnreadEnds source sink (TooLong count) = (count ≡ read_limit + 1) × IsTooLong source.bytes source.bytes' × IsUnharmed source × IsUntouched sink
-UnreadEnds source sink Memory = IsUnharmed source × IsUntouched sink
+UnreadEnds source sink Memory = IsUnharmed source × HandsSome source.bytes source.bytes' × IsUntouched sink
 UnreadEnds source sink other = ⊥
 
 -- the ending that tells it
@@ -104,7 +108,15 @@ pub record Ran (source : Seen) (text : Sealing) (ending : Ending) (journal : Opt
 -- the steps of the scenario that was read, as far as they were made
 abbrev pub HalfRan : Seen → Sealing → Option Journal → Type 0
 HalfRan source text None = Unit {0}
-HalfRan source text (Some journal) = (input : List ℕ) × IsInput source input × IsHalfIf text input (Some journal)
+HalfRan source text (Some journal) = (input : List ℕ) × IsInput source input × IsHalf text input journal
+
+-- For private contracts alone: how a run ends that came so far, and what it leaves of the sink.
+abbrev pub EndsAs : Seen → Simulated → Ending → Type 0
+EndsAs sink (simulated.Refused place) ending = (ending ≡ Refused place) × IsUntouched sink
+EndsAs sink simulated.Unmade ending = (ending ≡ Memory) × IsUntouched sink
+EndsAs sink (simulated.Halted journal) ending = (ending ≡ Memory) × IsUntouched sink
+EndsAs sink (simulated.Ran came journal out) ending =
+    ((ending ≡ came) × IsWritten sink out) ⊎ ((count : ℕ) × (ending ≡ WriteFault count) × IsWriteFault sink out count)
 
 -- how `run` ends, and why
 abbrev pub RunEnds : Seen → Seen → Sealing → Option Journal → Ending → Type 0
@@ -112,7 +124,7 @@ RunEnds source sink text journal (Refused place) = (input : List ℕ) × IsInput
 RunEnds source sink text journal Done = (out : List ℕ) × Ran source text Done journal out × IsWritten sink out
 RunEnds source sink text journal (Forged count) = (out : List ℕ) × Ran source text (Forged count) journal out × IsWritten sink out
 RunEnds source sink text journal (WriteFault count) = (ending : Ending) × (out : List ℕ) × Ran source text ending journal out × IsWriteFault sink out count
-RunEnds source sink text journal Memory = IsUnharmed source × IsUntouched sink × HalfRan source text journal
+RunEnds source sink text journal Memory = IsUnharmed source × HandsSome source.bytes source.bytes' × IsUntouched sink × HalfRan source text journal
 RunEnds source sink text journal other = UnreadEnds source sink other × (journal ≡ None)
 
 -- the same ending, journal and text

@@ -1,5 +1,5 @@
 -- What `run` makes of a scenario: its history and the two texts of it.
-use Rattle.std.specs.Prelude.{◌≡◌, ℕ, ◌⊎◌, List, [], ◌++◌, length, Option, Some, None, Ok, Err}
+use Rattle.std.specs.Prelude.{◌≡◌, ℕ, ◌⊎◌, List, [], ◌++◌, length, Option, Some, None, Result, Ok, Err}
 use Rattle.wl_frame.specs.Sealing.{Sealing}
 use Rattle.wl_history.specs.declared.opened.Opened.{Opened}
 use Rattle.wl_history.specs.declared.start.Start.{Start}
@@ -8,7 +8,9 @@ use Rattle.wl_history.specs.declared.step.Step.{Step}
 use Rattle.wl_history.specs.Legal.{Legal}
 use Rattle.wl_history.specs.Runs.{Plays, Stops}
 use Rattle.wl_history.specs.Safe.{Safe}
-use Rattle.wl_air.specs.Playing.{Reaches}
+use Rattle.wl_air.specs.declared.fault.StepFault.{StepFault}
+use Rattle.wl_air.specs.Playing.{Reaches, ScriptFault}
+use Rattle.wl_air.specs.World.{WorldState}
 use Rattle.wl_scene.specs.declared.scenario.Scenario.{Scenario}
 use Rattle.wl_scene.specs.Account.{IsReport}
 use Rattle.wl_scene.specs.Lines.{journal_lines}
@@ -38,10 +40,6 @@ pub record IsHalf (text : Sealing) (input : List ℕ) (journal : Journal) : Type
   pub start_is : journal.start ≡ scene.start
   pub come : ((ending : Ending) × HasRun text scene ending journal.steps) ⊎ Reaches text scene.start scene.before [] journal.steps
 
-abbrev pub IsHalfIf : Sealing → List ℕ → Option Journal → Type 0
-IsHalfIf text input None = Unit {0}
-IsHalfIf text input (Some journal) = IsHalf text input journal
-
 -- the history of the scenario that was read from this input, and its texts
 pub record IsWhole (text : Sealing) (input : List ℕ) (ending : Ending) (journal : Journal) (out : List ℕ) : Type 0 where
   pub scene : Scenario
@@ -50,9 +48,25 @@ pub record IsWhole (text : Sealing) (input : List ℕ) (ending : Ending) (journa
   pub has_run : HasRun text scene ending journal.steps
   pub is_output : IsOutput scene.start journal.steps out
 
+-- For private contracts alone: how far the scenario's commands were done, to these steps.
+abbrev pub PlayedTo : Sealing → Scenario → List Step → Result (Unit {0}) StepFault → Type 0
+PlayedTo text scene steps (Ok done) = Plays text scene.start scene.before [] steps
+PlayedTo text scene steps (Err fault) = ScriptFault text scene.start scene.before [] steps fault
+
+-- the history of a world
+abbrev pub journal_of : WorldState → Journal
+journal_of w = record { start = w.start; steps = w.steps }
+
+-- the history that came of it, where there was a world
+abbrev pub journal_in : Simulated → Option Journal
+journal_in (simulated.Halted journal) = Some journal
+journal_in (simulated.Ran ending journal out) = Some journal
+journal_in other = None
+
 abbrev pub IsSimulated : Sealing → List ℕ → Simulated → Type 0
 IsSimulated text input (simulated.Refused place) = SceneOf input (Err place)
-IsSimulated text input (simulated.Halted journal) = IsHalfIf text input journal
+IsSimulated text input simulated.Unmade = Unit {0}
+IsSimulated text input (simulated.Halted journal) = IsHalf text input journal
 IsSimulated text input (simulated.Ran ending journal out) = IsWhole text input ending journal out
 
 -- the journal is a legal history, and safe
@@ -66,5 +80,6 @@ IsSafeIf text (Some journal) = IsSafe text journal
 
 abbrev pub SimulatedSafe : Sealing → Simulated → Type 0
 SimulatedSafe text (simulated.Refused place) = Unit {0}
-SimulatedSafe text (simulated.Halted journal) = IsSafeIf text journal
+SimulatedSafe text simulated.Unmade = Unit {0}
+SimulatedSafe text (simulated.Halted journal) = IsSafe text journal
 SimulatedSafe text (simulated.Ran ending journal out) = IsSafe text journal

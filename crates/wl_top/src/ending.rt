@@ -26,7 +26,7 @@ pub struct Outcome {
     pub status: u8,
     pub place: u64,
     /// The history that `run` made: None for `decode`, `check` and the statuses 1, 2, 3 and 8. With status 9
-    /// it has the steps made so far, where there are any.
+    /// it has all steps that were made where there was a world, and is None where there was none.
     pub journal: Option<Journal>,
 }
 

@@ -5,8 +5,9 @@ ghost use Rattle.std.specs.String.{string_bytes};
 ghost use Rattle.wl_io.specs.Seen.{seen};
 ghost use Rattle.wl_top.specs.declared.run.Task.{Task};
 ghost use Rattle.wl_top.specs.declared.run.Task.TheVariants.{Simulate as IsSimulate};
-ghost use Rattle.wl_top.specs.Run.{CheckEnds, verdict_ending, DecodeEnds, IsOutcome, IsReadEnding, IsTask, task_word};
-ghost use Rattle.wl_top.specs.Simulated.{IsSafeIf};
+ghost use Rattle.wl_top.specs.declared.ending.Ending.{Ending};
+ghost use Rattle.wl_top.specs.Run.{CheckEnds, verdict_ending, DecodeEnds, EndsAs, IsOutcome, IsReadEnding, IsTask, outcome_of, task_word};
+ghost use Rattle.wl_top.specs.Simulated.{IsSafeIf, journal_in};
 
 use crate::ending::{Ending, Outcome};
 use crate::simulate::{Simulated, simulate};
@@ -120,6 +121,26 @@ fn check<S: Source, K: Sink>(alloc: Global, source: &mut S, sink: &mut K) -> End
     }
 }
 
+/// Writes the texts of what came of a scenario, and tells how the run ended, with the history in any case
+/// where there was a world.
+fn finish<K: Sink>(simulated: Simulated, sink: &mut K) -> Outcome
+    ensures { (ending : Ending) × EndsAs (seen K.taken K.faults sink.old sink.new) simulated ending × (result ≡ outcome_of ending (journal_in simulated)) }
+{
+    match simulated {
+        Simulated::Refused(place) => Ending::Refused(place).outcome(None),
+        Simulated::Unmade => Ending::Memory.outcome(None),
+        Simulated::Halted(journal) => Ending::Memory.outcome(Some(journal)),
+        Simulated::Ran {
+            ending,
+            journal,
+            out,
+        } => match write_all(sink, out.as_slice()) {
+            Ok(()) => ending.outcome(Some(journal)),
+            Err(fault) => Ending::WriteFault(fault.taken).outcome(Some(journal)),
+        },
+    }
+}
+
 /// Does what a scenario asks for.
 fn run<S: Source, K: Sink, Z: Sealer>(
     alloc: Global,
@@ -134,18 +155,7 @@ fn run<S: Source, K: Sink, Z: Sealer>(
         Ok(input) => input,
         Err(fault) => return unread(fault).outcome(None),
     };
-    match simulate(alloc, input.as_slice(), sealer) {
-        Simulated::Refused(place) => Ending::Refused(place).outcome(None),
-        Simulated::Halted(journal) => Ending::Memory.outcome(journal),
-        Simulated::Ran {
-            ending,
-            journal,
-            out,
-        } => match write_all(sink, out.as_slice()) {
-            Ok(()) => ending.outcome(Some(journal)),
-            Err(fault) => Ending::WriteFault(fault.taken).outcome(Some(journal)),
-        },
-    }
+    finish(simulate(alloc, input.as_slice(), sealer), sink)
 }
 
 /// Does what the words ask for: reads the source to its end, and writes to the sink.

@@ -1,12 +1,12 @@
 //! Calls on what a history is made of.
 
 use crate::octets::octets_text;
-use crate::steps::command_of;
-use crate::words::{address_of, link_of, number_of, text, u16s_of, yes};
+use crate::steps::{command_of, outcome_of};
+use crate::words::{address_of, lane_of, link_of, number_of, text, u16s_of, yes};
 use std::alloc::Global;
-use wl_elem::{EndId, LinkSet, MacAddr};
+use wl_elem::{EndId, LinkSet, List, MacAddr};
 use wl_history::{
-    EndStart, Item, LinkStart, LinkStarts, Plain, Positions, Script, SequenceNumbers, Start,
+    Cursor, EndStart, Item, LinkStart, LinkStarts, Plain, Positions, Script, SequenceNumbers, Start,
 };
 
 /// The answer of a call. None where there is none of this name, or a word can't be read.
@@ -16,6 +16,7 @@ pub fn answer(alloc: Global, name: &str, words: &[&str]) -> Option<String> {
         "positions" => positions(alloc, words),
         "sequence_numbers" => sequence_numbers(alloc, words),
         "script" => script(alloc, words),
+        "cursor" => cursor(alloc, words),
         _ => None,
     }
 }
@@ -155,6 +156,52 @@ fn script(alloc: Global, words: &[&str]) -> Option<String> {
         let command = command_of(alloc, word)?;
         script.push(Item::Once(Plain::Do(command))).ok()?;
         write!(out, " {}", script.as_slice().len()).ok()?;
+    }
+    Some(out)
+}
+
+/// A loop of this command.
+fn rounds(alloc: Global, times: u32, command: &str) -> Option<Item> {
+    let mut body = List::new(alloc);
+    body.push(Plain::Do(command_of(alloc, command)?)).ok()?;
+    Some(Item::Loop { times, body })
+}
+
+/// No rounds of a command, so many rounds of it, and a send of the AP over link 3 on lane 0.
+fn looped(alloc: Global, times: u32, command: &str) -> Option<Script> {
+    let mut script = Script::new(alloc);
+    script.push(rounds(alloc, 0, command)?).ok()?;
+    script.push(rounds(alloc, times, command)?).ok()?;
+    let end = EndId::Ap;
+    let link = link_of("3")?;
+    let lane = lane_of("0")?;
+    script
+        .push(Item::Once(Plain::Send { end, link, lane }))
+        .ok()?;
+    Some(script)
+}
+
+/// Adds what a cursor asks for of a script.
+fn put_asked(alloc: Global, out: &mut String, cursor: &Cursor, script: &Script) -> Option<()> {
+    match cursor.asks(alloc, script).ok()? {
+        Some(command) => write!(out, " {command:?}").ok(),
+        None => write!(out, " nothing").ok(),
+    }
+}
+
+/// `cursor TIMES COMMAND ANSWER..`: what a cursor asks for of such a script, at its beginning and behind
+/// each of these answers.
+fn cursor(alloc: Global, words: &[&str]) -> Option<String> {
+    let [times, command, answers @ ..] = words else {
+        return None;
+    };
+    let script = looped(alloc, number_of::<u32>(times)?, command)?;
+    let mut cursor = Cursor::start();
+    let mut out = text(alloc, "asks")?;
+    put_asked(alloc, &mut out, &cursor, &script)?;
+    for word in answers {
+        cursor.advance(&script, &outcome_of(alloc, word)?);
+        put_asked(alloc, &mut out, &cursor, &script)?;
     }
     Some(out)
 }

@@ -109,7 +109,7 @@ fn acked(alloc: Global, word: &str) -> Option<Outcome> {
 }
 
 /// An answer: its name and its words, with `:` between any two.
-fn outcome_of(alloc: Global, word: &str) -> Option<Outcome> {
+pub fn outcome_of(alloc: Global, word: &str) -> Option<Outcome> {
     let why = Why::Short;
     match name_of(word) {
         ("badframe", place) => Some(Outcome::BadFrame {

@@ -40,10 +40,10 @@ fn arrived(
     requires { SIZE ≤ reorder.old.room }
     ensures { reorder.new.room ≡ reorder.old.room }
 {
-    up.reserve(SIZE).ok()?;
-    if up.spare() <= reorder.held() || reorder.start() >= 1 << 31 || size == 0 || size > SIZE {
+    if reorder.start() >= 1 << 31 || size == 0 || size > SIZE {
         return None;
     }
+    up.reserve(reorder.due_on_arrival(number, size)).ok()?;
     match reorder.arrive(number, size, u32::from(number), up) {
         Ok(()) => Some("stored"),
         Err(ArriveRefusal::OldNumber(_)) => Some("old"),
@@ -56,14 +56,38 @@ fn moved(reorder: &mut Reorder<u32>, up: &mut Ups<u32>, start: u16) -> Option<&'
     requires { SIZE ≤ reorder.old.room }
     ensures { reorder.new.room ≡ reorder.old.room }
 {
-    up.reserve(SIZE).ok()?;
-    if up.spare() <= reorder.held() || reorder.start() >= 1 << 31 {
+    if reorder.start() >= 1 << 31 {
         return None;
     }
+    up.reserve(reorder.due_on_request(start)).ok()?;
     if reorder.request(start, up) {
         return Some("moved");
     }
     Some("not_moved")
+}
+
+/// How many would go up if a frame came.
+fn due_on_arrival(reorder: &Reorder<u32>, number: u16, size: u16) -> Option<u16>
+    requires { SIZE ≤ reorder.now.room }
+{
+    if reorder.start() >= 1 << 31 || size == 0 || size > SIZE {
+        return None;
+    }
+    Some(reorder.due_on_arrival(number, size))
+}
+
+/// How many would go up if the window were moved.
+fn due_on_request(reorder: &Reorder<u32>, start: u16) -> Option<u16> {
+    if reorder.start() >= 1 << 31 {
+        return None;
+    }
+    Some(reorder.due_on_request(start))
+}
+
+/// How many would go up.
+fn due_text(alloc: Global, due: Option<u16>) -> Option<String> {
+    let due = due?;
+    format!(in alloc; "{due}").ok()
 }
 
 /// The numbers that are stored, and how many there are.
@@ -108,14 +132,20 @@ fn reorder_answer(
             let came = moved(reorder, up, number_of::<u16>(start)?);
             came_text(alloc, came, up, reorder.start())
         }
+        ("due", rest) => {
+            let (number, size) = frame_of(rest)?;
+            due_text(alloc, due_on_arrival(reorder, number, size))
+        }
+        ("due_move", start) => due_text(alloc, due_on_request(reorder, number_of::<u16>(start)?)),
         ("stored", "") => stored_text(alloc, reorder),
         _ => None,
     }
 }
 
 /// `reorder OP..`: what a reordering window of at most 64 numbers answers to each of `frame:NUMBER`,
-/// `frame:NUMBER:SIZE` while the window has this size, `move:START` and `stored` (the numbers stored,
-/// and how many they are). Behind each act stand the numbers that go up and the start.
+/// `frame:NUMBER:SIZE` while the window has this size, `move:START`, `stored` (the numbers stored, and
+/// how many they are), and `due` and `due_move` in place of the first two (how many would go up). Behind
+/// each act stand the numbers that go up and the start.
 fn reorder(alloc: Global, words: &[&str]) -> Option<String> {
     let mut reorder = Reorder::new(alloc, SIZE).ok()?;
     let mut up = Ups::new(alloc);

@@ -13,7 +13,7 @@ use Rattle.wl_number.specs.Bookings.{booking_count}
 use Rattle.wl_number.specs.OrderRule.{list_of, entered_in}
 use Rattle.wl_replay.specs.Replay.{is_above, last_of}
 use Rattle.wl_window.specs.Originating.{Acked}
-use Rattle.wl_window.specs.Reordering.{Window, Arrived, Old, Doubled, Stored, arrived}
+use Rattle.wl_window.specs.Reordering.{IsNear, Window, Arrived, Old, Doubled, Stored, arrived}
 use Rattle.wl_history.specs.declared.ack.Ack.{Ack}
 use Rattle.wl_history.specs.declared.arrival.Arrival.{Arrival}
 use Rattle.wl_history.specs.declared.command.Command.{Command}
@@ -24,15 +24,15 @@ use Rattle.wl_history.specs.declared.outcome.Outcome.{Outcome}
 use Rattle.wl_history.specs.declared.outcome.Outcome.TheVariants as outcomes
 use Rattle.wl_history.specs.declared.start.EndStart.{EndStart}
 use Rattle.wl_history.specs.declared.start.Start.{Start}
-use Rattle.wl_history.specs.Ends.{IsStart, start_of, receive_size}
+use Rattle.wl_history.specs.Ends.{IsSetup, IsStart, start_of, receive_size}
 use Rattle.wl_history.specs.Hands.{hand_of}
 use Rattle.wl_history.specs.Answers.{aired_octets, acks_made}
-use Rattle.wl_history.specs.EndState.{LaneState, EndState, lane_at, no_lane, no_lanes, started, frames_on, with_lane, with_frame, put_down, arrival_of, after_queue, after_reserve, after_book, after_put, after_arrived, after_heard, after_acked, after_taken, acked_by}
+use Rattle.wl_history.specs.EndState.{LaneState, EndState, lane_at, no_lane, no_lanes, no_management, started, frames_on, with_lane, with_frame, put_down, arrival_of, after_queue, after_reserve, after_book, after_put, after_arrived, after_heard, after_acked, after_taken, acked_by}
 use Rattle.wl_history.specs.AirState.{AirState, end_of, acks_of, with_end, with_acks, ack_named, begun, after}
 use Rattle.wl_end.specs.Parts.{frame_count}
 use Rattle.wl_history.specs.Legal.{step_limit}
-use Rattle.wl_air.specs.World.{IsNear, IsBounded, IsRoomy, IsWorld}
-use Rattle.wl_air.proofs.Windows.{ArrivedNear, arrived_near}
+use Rattle.wl_air.specs.World.{IsBounded, IsRoomy, IsWorld}
+use Rattle.wl_air.proofs.Windows.{StoredNear, ArrivedNear, arrived_near}
 
 -- ---- one end
 
@@ -45,6 +45,7 @@ pub record LaneGrown (old new : LaneState) : Type 0 where
 -- an end after a step
 pub record Grown (s t : EndState) : Type 0 where
   pub start_same : t.start ≡ s.start
+  pub sized : IsSetup s.setup → IsSetup t.setup
   pub lanes : (l : ℕ) → LaneGrown (lane_at s l) (lane_at t l)
   pub booked : booking_count t.booked ≤ booking_count s.booked + 1
   pub aired : frame_count t.frames ≤ frame_count s.frames + 1
@@ -53,7 +54,7 @@ lane_still : (x : LaneState) → LaneGrown x x
 lane_still x = record { queue = omega arith; window = omega arith; near = λ h. h }
 
 still_grown : (s : EndState) → Grown s s
-still_grown s = record { start_same = refl; lanes = λ l. lane_still (lane_at s l); booked = omega arith; aired = omega arith }
+still_grown s = record { start_same = refl; sized = λ h. h; lanes = λ l. lane_still (lane_at s l); booked = omega arith; aired = omega arith }
 
 -- one lane changed
 one_lane : (lanes : List LaneState) (place l : ℕ) (new : LaneState) → LaneGrown (get_or lanes place no_lane) new → LaneGrown (get_or lanes l no_lane) (get_or (set lanes place new) l no_lane)
@@ -100,29 +101,31 @@ module _ (s : EndState) where
   queue_grown : (l : ℕ) (body : List ℕ) → Grown s (after_queue l body s)
   queue_grown l body = record {
     start_same = refl;
+    sized = λ h. h;
     lanes = λ k. one_lane s.lanes l k (record (lane_at s l) { queue = (lane_at s l).queue ++ body ∷ [] }) (record { queue = omega (arith, length-append (lane_at s l).queue (body ∷ [])); window = omega arith; near = λ h. h });
     booked = omega arith;
     aired = omega arith;
   }
 
   reserve_grown : (thread : ℕ) (lane : Lane) (o : Outcome) → Grown s (after_reserve thread lane o s)
-  reserve_grown thread lane outcomes.Reserved = record { start_same = refl; lanes = same_lane (lane_index lane) _ refl refl; booked = omega arith; aired = omega arith }
+  reserve_grown thread lane outcomes.Reserved = record { start_same = refl; sized = λ h. h; lanes = same_lane (lane_index lane) _ refl refl; booked = omega arith; aired = omega arith }
   reserve_grown thread lane other = still_grown s
 
   book_grown : (thread : ℕ) (o : Outcome) → Grown s (after_book thread o s)
   book_grown thread (outcomes.Booked lane n) =
-      record { start_same = refl; lanes = same_lane (lane_index lane) _ refl refl; booked = booking_more s.booked (lane_index lane) (entered_in n (list_of s.booked lane)) (entered_more n (list_of s.booked lane)); aired = omega arith }
-  book_grown thread (outcomes.Spent lane) = record { start_same = refl; lanes = same_lane (lane_index lane) _ refl refl; booked = omega arith; aired = omega arith }
+      record { start_same = refl; sized = λ h. h; lanes = same_lane (lane_index lane) _ refl refl; booked = booking_more s.booked (lane_index lane) (entered_in n (list_of s.booked lane)) (entered_more n (list_of s.booked lane)); aired = omega arith }
+  book_grown thread (outcomes.Spent lane) = record { start_same = refl; sized = λ h. h; lanes = same_lane (lane_index lane) _ refl refl; booked = omega arith; aired = omega arith }
   book_grown thread other = still_grown s
 
   down_grown : (thread : ℕ) (held : Hand) (t : EndState) → Grown s t → Grown s (put_down thread held t)
   down_grown thread hand.Empty t g = g
   down_grown thread (hand.Reserve lane) t g = g
-  down_grown thread (hand.Booking lane n) t g = record { start_same = g.start_same; lanes = g.lanes; booked = g.booked; aired = g.aired }
+  down_grown thread (hand.Booking lane n) t g = record { start_same = g.start_same; sized = g.sized; lanes = g.lanes; booked = g.booked; aired = g.aired }
 
   frame_grown : (link : ℕ) (octets : List ℕ) (lane : Lane) (n : Numbers) → Grown s (with_frame link octets lane n s)
   frame_grown link octets lane n = record {
     start_same = refl;
+    sized = λ h. h;
     lanes = same_lane (lane_index lane) _ refl refl;
     booked = omega arith;
     aired = frame_more s.frames link (frames_on s link ++ octets ∷ []) (omega (arith, length-append (frames_on s link) (octets ∷ [])));
@@ -137,7 +140,8 @@ module _ (s : EndState) where
   arrived_grown lane Doubled near = still_grown s
   arrived_grown lane (Stored moved) near = record {
     start_same = refl;
-    lanes = λ l. one_lane s.lanes (lane_index lane) l _ (record { queue = omega arith; window = near.most; near = λ h. near.near });
+    sized = λ h. h;
+    lanes = λ l. one_lane s.lanes (lane_index lane) l _ (record { queue = omega arith; window = near.2; near = λ h. near.0 });
     booked = omega arith;
     aired = omega arith;
   }
@@ -146,17 +150,17 @@ module _ (s : EndState) where
   hear_by true t g = g
   hear_by false t g = still_grown s
 
-  heard_grown : (p : EndState) (o : Outcome) → 1 ≤ s.start.window → ((l : ℕ) → IsNear (lane_at s l).window) → Grown s (after_heard p o s)
-  heard_grown p (outcomes.Stored lane number n up) some near =
-      let size = receive_size s.start (lane_index lane) in
+  heard_grown : StoredNear → (p : EndState) (o : Outcome) → IsSetup s.setup → ((l : ℕ) → IsNear (lane_at s l).window) → Grown s (after_heard p o s)
+  heard_grown law p (outcomes.Stored lane number n up) some near =
+      let size = receive_size s.setup (lane_index lane) in
       hear_by (is_above (last_of s.last lane) n.key n.pn) _
       (arrived_grown lane (arrived (lane_at s (lane_index lane)).window number size (arrival_of p lane n))
-      (arrived_near (lane_at s (lane_index lane)).window number size (arrival_of p lane n) (size_by (lane_index lane == lane_index Management) s.start.window some) (near (lane_index lane))))
-  heard_grown p other some near = still_grown s
+      (arrived_near law (lane_at s (lane_index lane)).window number size (arrival_of p lane n) (size_by (lane_index lane == lane_index Management) s.setup.window some.some_window) (near (lane_index lane))))
+  heard_grown law p other some near = still_grown s
 
   acked_grown : (ack : Ack) (a : Option Acked) → Grown s (after_acked ack a s)
   acked_grown ack None = still_grown s
-  acked_grown ack (Some acked) = record { start_same = refl; lanes = same_lane (lane_index ack.lane) _ refl refl; booked = omega arith; aired = omega arith }
+  acked_grown ack (Some acked) = record { start_same = refl; sized = λ h. h; lanes = same_lane (lane_index ack.lane) _ refl refl; booked = omega arith; aired = omega arith }
 
   taken_grown : (named : Option Ack) → Grown s (after_taken named s)
   taken_grown None = still_grown s
@@ -177,15 +181,15 @@ module _ (a : AirState) where
   at_acks Sta acks Ap = still_grown a.ap
   at_acks Sta acks Sta = still_grown a.sta
 
-  after_grown : (text : Sealing) (thread : ℕ) (command : Command) (o : Outcome) → ((e : EndId) → 1 ≤ (end_of a e).start.window) → ((e : EndId) (l : ℕ) → IsNear (lane_at (end_of a e) l).window)
+  after_grown : StoredNear → (text : Sealing) (thread : ℕ) (command : Command) (o : Outcome) → ((e : EndId) → IsSetup (end_of a e).setup) → ((e : EndId) (l : ℕ) → IsNear (lane_at (end_of a e) l).window)
       → (e : EndId) → Grown (end_of a e) (end_of (after text thread command o a) e)
-  after_grown text thread (commands.Queue end tid body) o some near = at_end end _ (queue_grown (end_of a end) tid body)
-  after_grown text thread (commands.Reserve end lane) o some near = at_end end _ (reserve_grown (end_of a end) thread lane o)
-  after_grown text thread (commands.Book end) o some near = at_end end _ (book_grown (end_of a end) thread o)
-  after_grown text thread (commands.Put end link) o some near = at_end end _ (put_grown (end_of a end) thread link (aired_octets text link (hand_of (end_of a end).hands thread) (end_of a end)) o)
-  after_grown text thread (commands.Deliver end link nth) o some near = at_end end _ (heard_grown (end_of a end) (end_of a (peer_of end)) o (some end) (near end))
-  after_grown text thread (commands.AckOut end lane) o some near = at_acks end (acks_made lane o (acks_of a end))
-  after_grown text thread (commands.AckIn end nth) o some near = at_end end _ (taken_grown (end_of a end) (ack_named a end nth))
+  after_grown law text thread (commands.Queue end tid body) o some near = at_end end _ (queue_grown (end_of a end) tid body)
+  after_grown law text thread (commands.Reserve end lane) o some near = at_end end _ (reserve_grown (end_of a end) thread lane o)
+  after_grown law text thread (commands.Book end) o some near = at_end end _ (book_grown (end_of a end) thread o)
+  after_grown law text thread (commands.Put end link) o some near = at_end end _ (put_grown (end_of a end) thread link (aired_octets text link (hand_of (end_of a end).hands thread) (end_of a end)) o)
+  after_grown law text thread (commands.Deliver end link nth) o some near = at_end end _ (heard_grown (end_of a end) law (end_of a (peer_of end)) o (some end) (near end))
+  after_grown law text thread (commands.AckOut end lane) o some near = at_acks end (acks_made lane o (acks_of a end))
+  after_grown law text thread (commands.AckIn end nth) o some near = at_end end _ (taken_grown (end_of a end) (ack_named a end nth))
 
 -- ---- a world
 
@@ -196,6 +200,7 @@ bounded_after steps s t g b = record {
   near = λ l. (g.lanes l).near (b.near l);
   booked = omega (arith, b.booked, g.booked);
   aired = omega (arith, b.aired, g.aired);
+  sized = g.sized b.sized;
 }
 
 pub roomy : (steps : ℕ) (s : EndState) → steps < step_limit → IsBounded steps s → IsRoomy s
@@ -204,9 +209,9 @@ roomy steps s lt b = record {
   windows = λ l. omega (arith, lt, b.windows l);
 }
 
-pub world_kept : (text : Sealing) (start : Start) (a : AirState) (steps : ℕ) (thread : ℕ) (command : Command) (o : Outcome) → steps < step_limit → IsWorld start a steps → IsWorld start (after text thread command o a) (suc steps)
-world_kept text start a steps thread command o lt w =
-    let grown = after_grown a text thread command o (λ e. subst (λ (s : EndStart). 1 ≤ s.window) (sym (w.starts e)) (w.is_start.some_window e)) (λ e l. (w.bounded e).near l) in
+pub world_kept : StoredNear → (text : Sealing) (start : Start) (a : AirState) (steps : ℕ) (thread : ℕ) (command : Command) (o : Outcome) → steps < step_limit → IsWorld start a steps → IsWorld start (after text thread command o a) (suc steps)
+world_kept law text start a steps thread command o lt w =
+    let grown = after_grown a law text thread command o (λ e. (w.bounded e).sized) (λ e l. (w.bounded e).near l) in
     record {
       is_start = w.is_start;
       starts = λ e. (grown e).start_same ∙ w.starts e;
@@ -216,27 +221,28 @@ world_kept text start a steps thread command o lt w =
 
 -- ---- the start
 
-nothing_at : (l : ℕ) → get_or no_lanes l no_lane ≡ no_lane
-nothing_at l = all_same no_lanes l (refl, (refl, (refl, (refl, (refl, (refl, (refl, (refl, (refl, tt)))))))))
+lane_begun : (P : LaneState → Type 0) → P no_lane → P no_management → (l : ℕ) → P (get_or no_lanes l no_lane)
+lane_begun P p q l = all_hold no_lanes l (p, (p, (p, (p, (p, (p, (p, (p, (q, tt)))))))))
   where
-    all_same : (xs : List LaneState) (l : ℕ) → AllByRecursion (λ x. x ≡ no_lane) xs → get_or xs l no_lane ≡ no_lane
-    all_same [] l h = refl
-    all_same (x ∷ xs) zero h = h.0
-    all_same (x ∷ xs) (suc l) h = all_same xs l h.1
+    all_hold : (xs : List LaneState) (l : ℕ) → AllByRecursion P xs → P (get_or xs l no_lane)
+    all_hold [] l h = p
+    all_hold (x ∷ xs) zero h = h.0
+    all_hold (x ∷ xs) (suc l) h = all_hold xs l h.1
 
-end_bounded : (start : EndStart) → IsBounded 0 (started start)
-end_bounded start = record {
-  queues = λ l. subst (λ (lane : LaneState). length lane.queue ≤ 0) (sym (nothing_at l)) (omega arith);
-  windows = λ l. subst (λ (lane : LaneState). lane.window.start ≤ 0) (sym (nothing_at l)) (omega arith);
-  near = λ l. subst (λ (lane : LaneState). IsNear lane.window) (sym (nothing_at l)) tt;
+end_bounded : (start : EndStart) → 1 ≤ start.window → start.window ≤ 256 → IsBounded 0 (started start)
+end_bounded start some most = record {
+  queues = lane_begun (λ lane. length lane.queue ≤ 0) (omega arith) (omega arith);
+  windows = lane_begun (λ lane. lane.window.start ≤ 0) (omega arith) (omega arith);
+  near = lane_begun (λ lane. IsNear lane.window) tt tt;
   booked = omega arith;
   aired = omega arith;
+  sized = record { some_window = some; window_limit = most };
 }
 
 pub begun_world : (start : Start) → IsStart start → IsWorld start (begun start) 0
 begun_world start is = record {
   is_start = is;
   starts = λ e. elim e as (λ (x : EndId). (end_of (begun start) x).start ≡ start_of start x) [ Ap ↦ refl | Sta ↦ refl ];
-  bounded = λ e. elim e as (λ (x : EndId). IsBounded 0 (end_of (begun start) x)) [ Ap ↦ end_bounded start.ap | Sta ↦ end_bounded start.sta ];
+  bounded = λ e. elim e as (λ (x : EndId). IsBounded 0 (end_of (begun start) x)) [ Ap ↦ end_bounded start.ap (is.some_window Ap) (is.window_limit Ap) | Sta ↦ end_bounded start.sta (is.some_window Sta) (is.window_limit Sta) ];
   few = omega arith;
 }

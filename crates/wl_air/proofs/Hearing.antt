@@ -1,6 +1,7 @@
 -- A frame that is heard: the receiver opens it and its sender looks the booking up by its numbers; the
 -- history finds the booking by its text. Both answer the same, and call the same frames forged.
 use Rattle.std.proofs.Common.{◌≡◌, ◌≢◌, ℕ, zero, suc, ◌<◌, ◌≤◌, ◌^◌, Bool, true, false, List, [], ◌∷◌, length, Option, None, Some, Result, Ok, Err, refl, sym, ap, subst, ◌∙◌, arith, eq-eqb}
+use Rattle.std.proofs.lemmas.Slice.Eq.{bytes_eq-Decides}
 use Rattle.std.specs.Prelude.{◌==◌, if◌then◌else◌, IfOk, IfErr}
 use Rattle.std.specs.List.{Contains}
 use Rattle.std.proofs.lemmas.Bool.{and_from, and_parts, eqb-true}
@@ -23,10 +24,11 @@ use Rattle.wl_history.specs.declared.arrival.Arrival.{Arrival}
 use Rattle.wl_history.specs.declared.opened.Opened.{Opened}
 use Rattle.wl_history.specs.declared.outcome.Outcome.{Outcome}
 use Rattle.wl_history.specs.declared.outcome.Outcome.TheVariants as outcomes
+use Rattle.wl_history.specs.declared.setup.Setup.{Setup}
 use Rattle.wl_history.specs.declared.start.EndStart.{EndStart}
 use Rattle.wl_history.specs.Ends.{mld_of, receive_size}
 use Rattle.wl_history.specs.Words.{body_at}
-use Rattle.wl_history.specs.Hearing.{Closed, IsClosed, Judged, Answered, ToOpen, judged, kind_of, same_octets, opened_under, sealed_under, text_of, is_of, booking_of}
+use Rattle.wl_history.specs.Hearing.{Closed, IsClosed, Judged, Answered, ToOpen, judged, kind_of, opened_under, sealed_under, text_of, is_of, booking_of}
 use Rattle.wl_history.specs.EndState.{EndState, IsEnd, lane_at, arrival_of, hear_arrived, hear_answer, after_arrived, after_hear, after_heard}
 use Rattle.wl_history.specs.Legal.{IsBodyIn, IsUnbooked, judged_at, judged_answer, opened_answer, HeardAs, HeardIf, ForgedAs, ForgedIf}
 use Rattle.wl_history.specs.Plain.{IsPlain}
@@ -45,30 +47,14 @@ pub record HearLaws : Type 0 where
   pub lane_told : (kind other : Kind) (a2 : List ℕ) (pn number : ℕ) → IsKind kind → IsKind other → length a2 ≡ 6 → pn < 2 ^ 48 → number < 2 ^ 48
       → nonce kind a2 pn ≡ nonce other a2 number → (lane_of kind ≡ lane_of other) × (pn ≡ number)
   pub one_booking : (lanes : List (List Numbers)) (place other : ℕ) (a b : Numbers) → OrderRule lanes → Contains (list_at lanes place) a → Contains (list_at lanes other) b → same_pair a b ≡ true → (place ≡ other) × (a ≡ b)
-  pub fits : (start : EndStart) (e : EndId) (newest link : ℕ) (octets : List ℕ) (reading : Result FrameValue Refusal) (c : Closed) → ReadAs octets reading → judged start e newest link reading ≡ ToOpen c → IsClosed c
-
--- ---- octets
-
-same_first : (b : Bool) (x y : ℕ) (xs ys : List ℕ) → (x == y) ≡ b → (same_octets xs ys ≡ true → xs ≡ ys) → (if b then same_octets xs ys else false) ≡ true → x ∷ xs ≡ y ∷ ys
-same_first true x y xs ys e more h = let heads : x ≡ y = eqb-true x y e in let tails : xs ≡ ys = more h in cc
-same_first false x y xs ys e more h = absurd (cc h)
-
-same_text : (a b : List ℕ) → same_octets a b ≡ true → a ≡ b
-same_text [] [] e = refl
-same_text [] (y ∷ ys) e = absurd (cc e)
-same_text (x ∷ xs) [] e = absurd (cc e)
-same_text (x ∷ xs) (y ∷ ys) e = same_first (x == y) x y xs ys refl (same_text xs ys) e
-
-itself : (xs : List ℕ) → same_octets xs xs ≡ true
-itself [] = refl
-itself (x ∷ xs) = ap (λ (b : Bool). if b then same_octets xs xs else false) (eq-eqb x x refl) ∙ itself xs
+  pub fits : (start : EndStart) (setup : Setup) (e : EndId) (link : ℕ) (octets : List ℕ) (reading : Result FrameValue Refusal) (c : Closed) → ReadAs octets reading → judged start setup e link reading ≡ ToOpen c → IsClosed c
 
 -- ---- what a stored body leaves
 
 -- a booking that was heard, whatever the window made of it
 module _ (s p : EndState) (lane : Lane) (number : ℕ) (n : Numbers) where
   abbrev size : ℕ
-  size = receive_size s.start (lane_index lane)
+  size = receive_size s.setup (lane_index lane)
 
   abbrev item : Arrival
   item = arrival_of p lane n
@@ -144,7 +130,7 @@ module _ (text : Sealing) (sealing : IsSealing text) (laws : HearLaws) (s p : En
         found_by (IsOf m) m n ms (λ yes'. only m (0, omega arith, refl) yes') (one_found ms n (k, omega (arith, lt), is) own (λ x there. only x (suc there.0, omega (arith, there.1), there.2)))
 
     text_found : (m : Numbers) → IsOf m ≡ true → text_of text (under (body_at bodies m.pos)) ≡ c.payload
-    text_found m is = same_text _ _ (and_parts (m.pn == c.pn) _ (and_parts (m.key == c.key) _ is).1).1
+    text_found m is = (bytes_eq-Decides _ _).0 (and_parts (m.pn == c.pn) _ (and_parts (m.key == c.key) _ is).1).1
 
     none_by : (b : Bool) (m : Numbers) (later : Option Numbers) → (b ≡ true → ⊥) → later ≡ None → (if b then Some m else later) ≡ None
     none_by true m later nobody is = absurd (nobody refl)
@@ -168,7 +154,7 @@ module _ (text : Sealing) (sealing : IsSealing text) (laws : HearLaws) (s p : En
           let n = numbers pos in
           let own : under (body_at bodies pos) ≡ four = sym (under_same n (body_at bodies pos) key_is refl) ∙ b.sealed in
           let alike : text_of text (under (body_at bodies pos)) ≡ c.payload = ap (text_of text) own ∙ opens in
-          let here : IsOf n ≡ true = and_from _ _ (eq-eqb n.key c.key key_is) (and_from _ _ (eq-eqb n.pn c.pn refl) (subst (λ (t : List ℕ). same_octets (text_of text (under (body_at bodies pos))) t ≡ true) alike (itself (text_of text (under (body_at bodies pos)))))) in
+          let here : IsOf n ≡ true = and_from _ _ (eq-eqb n.key c.key key_is) (and_from _ _ (eq-eqb n.pn c.pn refl) ((bytes_eq-Decides _ _).1 alike)) in
           one_found list n b.booked here (λ m there is.
           let parts = and_parts (m.key == c.key) _ is in
           (laws.one_booking p.booked (lane_index c.lane) (lane_index c.lane) m n peer.sender.rule there b.booked
@@ -244,13 +230,13 @@ module _ (text : Sealing) (sealing : IsSealing text) (laws : HearLaws) (s p : En
         well (ToOpen c) is o (same ∙ shut.answer ∙ sym (ap (opened_answer s p c) (none_found c (λ b opens. shut.shut b opens) (list c))))
         (λ opened (under', opens', body, unbooked). shut.shut opened.body (ap (text_of text) (sym under') ∙ opens'))
     opened_well c is (peeks.Opened four lane number pn) opened o s' (pos, b, answer, after) =
-        let fits = laws.fits s.start s.start.end s.newest link octets seen.reading c seen.read is in
+        let fits = laws.fits s.start s.setup s.start.end link octets seen.reading c seen.read is in
         let opens = ap (text_of text) opened.four_is ∙ opened.opens in
         let own : IsBookingOf p c.lane c.pn four pos = subst (λ (x : Lane). IsBookingOf p x c.pn four pos) opened.lane_is (subst (λ (x : ℕ). IsBookingOf p lane x four pos) opened.pn_is b) in
-        let said : o ≡ hear_answer c.lane c.number (receive_size s.start (lane_index c.lane)) (arrival_of p c.lane (numbers_of four c.pn pos)) s =
-        subst (λ (x : Lane). o ≡ hear_answer x c.number (receive_size s.start (lane_index x)) (arrival_of p x (numbers_of four c.pn pos)) s) opened.lane_is
-        (subst (λ (x : ℕ). o ≡ hear_answer lane x (receive_size s.start (lane_index lane)) (arrival_of p lane (numbers_of four c.pn pos)) s) opened.number_is
-        (subst (λ (x : ℕ). o ≡ hear_answer lane number (receive_size s.start (lane_index lane)) (arrival_of p lane (numbers_of four x pos)) s) opened.pn_is answer)) in
+        let said : o ≡ hear_answer c.lane c.number (receive_size s.setup (lane_index c.lane)) (arrival_of p c.lane (numbers_of four c.pn pos)) s =
+        subst (λ (x : Lane). o ≡ hear_answer x c.number (receive_size s.setup (lane_index x)) (arrival_of p x (numbers_of four c.pn pos)) s) opened.lane_is
+        (subst (λ (x : ℕ). o ≡ hear_answer lane x (receive_size s.setup (lane_index lane)) (arrival_of p lane (numbers_of four c.pn pos)) s) opened.number_is
+        (subst (λ (x : ℕ). o ≡ hear_answer lane number (receive_size s.setup (lane_index lane)) (arrival_of p lane (numbers_of four x pos)) s) opened.pn_is answer)) in
         well (ToOpen c) is o (said ∙ sym (ap (opened_answer s p c) (found c fits four opened.four_is opens opened.under opened.body_is pos own)))
         (booked_unforged c fits four opened.four_is opens opened.under opened.body_is pos own)
 
@@ -267,7 +253,7 @@ module _ (text : Sealing) (sealing : IsSealing text) (laws : HearLaws) (s p : En
     opened_forged : (c : Closed) → j ≡ ToOpen c → (q : Peek) → OpenedAs text s.start c q → (opened : Opened) → NotBooked p q opened → ForgedAs text s p (ToOpen c) opened
     opened_forged c is (peeks.Answered answer) shut opened forged = absurd forged
     opened_forged c is (peeks.Opened four lane number pn) own opened (same, none) =
-        let fits = laws.fits s.start s.start.end s.newest link octets seen.reading c seen.read is in
+        let fits = laws.fits s.start s.setup s.start.end link octets seen.reading c seen.read is in
         let opens = ap (text_of text) own.four_is ∙ own.opens in
         subst (ForgedAs text s p (ToOpen c)) (sym same) (
           own.four_is,

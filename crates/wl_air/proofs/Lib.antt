@@ -5,4 +5,3 @@ pub mod Bounds
 pub mod Worlds
 pub mod Doing
 pub mod Plays
-pub mod Onces

@@ -14,14 +14,15 @@ use Rattle.wl_history.specs.declared.step.Step.{Step}
 use Rattle.wl_history.specs.AirState.{AirState, end_of, begun, after, state_of}
 use Rattle.wl_history.specs.Ends.{IsStart, start_of, mld_of}
 use Rattle.wl_history.specs.Legal.{Fits, InRanges, IsAnswer, Forges, step_limit}
-use Rattle.wl_history.specs.Runs.{step_of}
+use Rattle.wl_history.specs.Scripts.{step_of}
 use Rattle.wl_air.specs.declared.fault.StepFault.{StepFault}
 use Rattle.wl_air.specs.declared.fault.StepFault.TheVariants as faults
 use Rattle.wl_air.specs.Acting.{BodyFits, IsStepFault}
-use Rattle.wl_air.specs.Air.{Joined}
+use Rattle.wl_air.specs.Air.{AreJoined, KnowsPeer}
 use Rattle.wl_air.specs.Playing.{IsWorldFault}
 use Rattle.wl_air.specs.World.{IsWorld, IsRoomy, Stands, world_of}
 use Rattle.wl_air.proofs.Bounds.{roomy, world_kept}
+use Rattle.wl_air.proofs.Windows.{StoredNear}
 
 -- ---- what the ends of a world know of each other
 
@@ -53,10 +54,14 @@ starts_joined start is Sta s p own peer = (
   ),
 )
 
-pub joined : (start : Start) (a : AirState) (steps : ℕ) → IsWorld start a steps → Joined a
-joined start a steps w e =
+both_joined : (start : Start) (a : AirState) (steps : ℕ) → IsWorld start a steps → (e : EndId) → AreJoined (end_of a e) (end_of a (peer_of e))
+both_joined start a steps w e =
     let (peer, (ap_same, (sta_same, (key_same, six)))) = starts_joined start w.is_start e (end_of a e).start (end_of a (peer_of e)).start (w.starts e) (w.starts (peer_of e)) in
     record { peer = peer; ap_same = ap_same; sta_same = sta_same; key_same = key_same; six = six }
+
+pub knows_peer : (start : Start) (a : AirState) (steps : ℕ) (command : Command) → IsWorld start a steps → KnowsPeer command a
+knows_peer start a steps (commands.Deliver end link nth) w = both_joined start a steps w end
+knows_peer start a steps other w = tt
 
 -- ---- a step
 
@@ -76,17 +81,17 @@ settled thread command placeholder answer again before pushed after is same told
 
 -- what two ends did by a command
 pub record Acted (text : Sealing) (thread : ℕ) (command : Command) (a : AirState) (o : Outcome) (a' : AirState) : Type 0 where
-  pub answer : Joined a → IsAnswer text thread command a o
-  pub unforged : Joined a → (opened : Opened) → Forges text command a opened → ⊥
+  pub answer : KnowsPeer command a → IsAnswer text thread command a o
+  pub unforged : KnowsPeer command a → (opened : Opened) → Forges text command a opened → ⊥
   pub then_is : a' ≡ after text thread command o a
 
-pub kept : (text : Sealing) (start : Start) (a a' : AirState) (before later : List Step) (thread : ℕ) (command : Command) (o : Outcome) → length before < step_limit → later ≡ step_of thread command o ∷ before → Acted text thread command a o a'
+pub kept : StoredNear → (text : Sealing) (start : Start) (a a' : AirState) (before later : List Step) (thread : ℕ) (command : Command) (o : Outcome) → length before < step_limit → later ≡ step_of thread command o ∷ before → Acted text thread command a o a'
     → IsWorld start a (length before) → IsWorld start a' (length later)
-kept text start a a' before later thread command o room is acted w =
-    subst (λ (x : List Step). IsWorld start a' (length x)) (sym is) (subst (λ (x : AirState). IsWorld start x (suc (length before))) (sym acted.then_is) (world_kept text start a (length before) thread command o room w))
+kept law text start a a' before later thread command o room is acted w =
+    subst (λ (x : List Step). IsWorld start a' (length x)) (sym is) (subst (λ (x : AirState). IsWorld start x (suc (length before))) (sym acted.then_is) (world_kept law text start a (length before) thread command o room w))
 
 pub stands : (text : Sealing) (start : Start) (a a' : AirState) (before later : List Step) (thread : ℕ) (command : Command) (o : Outcome) → length before < step_limit → thread < 2 ^ 16 → Fits start command → InRanges command → later ≡ step_of thread command o ∷ before
-    → Acted text thread command a o a' → Joined a → Stands text (world_of start a before) → Stands text (world_of start a' later)
+    → Acted text thread command a o a' → KnowsPeer command a → Stands text (world_of start a before) → Stands text (world_of start a' later)
 unfolding state_of
 stands text start a a' before later thread command o room short fits ranges is acted join h =
     subst (λ (x : List Step). Stands text (world_of start a' x)) (sym is) (record {

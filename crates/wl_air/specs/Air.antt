@@ -1,7 +1,8 @@
 -- Two ends: what each may start with, and what they need of each other.
 use Rattle.std.specs.Prelude.{◌≡◌, ◌^◌, ◌<◌, ◌≤◌, length}
-use Rattle.wl_elem.specs.declared.lane.EndId.{EndId}
 use Rattle.wl_elem.specs.Lanes.{peer_of}
+use Rattle.wl_history.specs.declared.command.Command.{Command}
+use Rattle.wl_history.specs.declared.command.Command.TheVariants as commands
 use Rattle.wl_history.specs.declared.start.EndStart.{EndStart}
 use Rattle.wl_history.specs.Ends.{mld_of}
 use Rattle.wl_history.specs.EndState.{EndState}
@@ -22,6 +23,7 @@ pub record AreJoined (s sender : EndState) : Type 0 where
   pub key_same : sender.start.key ≡ s.start.key
   pub six : length (mld_of sender.start sender.start.end) ≡ 6
 
--- each end as the receiver of the other
-abbrev pub Joined : AirState → Type 0
-Joined a = (e : EndId) → AreJoined (end_of a e) (end_of a (peer_of e))
+-- an end that is told to hear its peer knows it; no other command asks for that
+abbrev pub KnowsPeer : Command → AirState → Type 0
+KnowsPeer (commands.Deliver end link nth) a = AreJoined (end_of a end) (end_of a (peer_of end))
+KnowsPeer other a = Unit {0}

@@ -1,4 +1,5 @@
 pub mod Air
+pub mod Lending
 pub mod World
 pub mod Acting
 pub mod Listening

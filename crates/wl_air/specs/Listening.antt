@@ -21,8 +21,8 @@ abbrev pub Seen : EndState → EndState → Peek → Outcome → EndState → Ty
 Seen s sender (peeks.Answered answer) o s' = (o ≡ answer) × (s' ≡ s)
 Seen s sender (peeks.Opened four lane number pn) o s' =
     (pos : ℕ) × IsBookingOf sender lane pn four pos
-    × (o ≡ hear_answer lane number (receive_size s.start (lane_index lane)) (arrival_of sender lane (numbers_of four pn pos)) s)
-    × (s' ≡ after_hear lane number (receive_size s.start (lane_index lane)) (arrival_of sender lane (numbers_of four pn pos)) s)
+    × (o ≡ hear_answer lane number (receive_size s.setup (lane_index lane)) (arrival_of sender lane (numbers_of four pn pos)) s)
+    × (s' ≡ after_hear lane number (receive_size s.setup (lane_index lane)) (arrival_of sender lane (numbers_of four pn pos)) s)
 
 -- it opened to what the sender has no booking of
 abbrev pub NotBooked : EndState → Peek → Opened → Type 0

@@ -1,14 +1,12 @@
 -- A world: two ends, what they acknowledged, and the steps made.
-use Rattle.std.specs.Prelude.{◌≡◌, ℕ, ◌+◌, ◌-◌, ◌*◌, ◌<◌, ◌≤◌, ◌^◌, List, length}
-use Rattle.std.specs.List.{AllByRecursion}
+use Rattle.std.specs.Prelude.{◌≡◌, ℕ, ◌-◌, ◌*◌, ◌<◌, ◌≤◌, ◌^◌, List, length}
 use Rattle.wl_elem.specs.declared.lane.EndId.{EndId}
 use Rattle.wl_frame.specs.Sealing.{Sealing}
 use Rattle.wl_number.specs.Bookings.{booking_count}
-use Rattle.wl_window.specs.declared.slot.Slot.{Slot}
-use Rattle.wl_window.specs.Reordering.{Window}
+use Rattle.wl_window.specs.Reordering.{IsNear}
 use Rattle.wl_history.specs.declared.start.Start.{Start}
 use Rattle.wl_history.specs.declared.step.Step.{Step}
-use Rattle.wl_history.specs.Ends.{IsStart, start_of}
+use Rattle.wl_history.specs.Ends.{IsSetup, IsStart, start_of}
 use Rattle.wl_history.specs.Legal.{Legal, step_limit}
 use Rattle.wl_history.specs.EndState.{EndState, lane_at}
 use Rattle.wl_history.specs.AirState.{AirState, end_of as air_end, state_of}
@@ -34,14 +32,6 @@ pub record Stands (text : Sealing) (w : WorldState) : Type 0 where
 
 -- ---- what holds of each world, whichever sealers its steps were made with
 
--- all slots have lower numbers
-abbrev pub AllBelow : {T : Type 0} → ℕ → List (Slot T) → Type 0
-AllBelow high slots = AllByRecursion (λ slot. slot.number < high) slots
-
--- a window whose slots lie less than half the number space ahead
-abbrev pub IsNear : {T : Type 0} → Window T → Type 0
-IsNear w = AllBelow (w.start + 2048) w.slots
-
 -- An end after so many steps: each queues at most one body, books one position, airs one frame and
 -- moves a window by at most 2,048.
 pub record IsBounded (steps : ℕ) (s : EndState) : Type 0 where
@@ -50,6 +40,8 @@ pub record IsBounded (steps : ℕ) (s : EndState) : Type 0 where
   pub near : (l : ℕ) → IsNear (lane_at s l).window
   pub booked : booking_count s.booked ≤ steps
   pub aired : frame_count s.frames ≤ steps
+  -- and its windows keep to the sizes that they may have
+  pub sized : IsSetup s.setup
 
 pub record IsWorld (start : Start) (a : AirState) (steps : ℕ) : Type 0 where
   pub is_start : IsStart start

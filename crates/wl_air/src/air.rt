@@ -90,6 +90,21 @@ fn acknowledge(
     }
 }
 
+/// Lets an end queue a copy of a body.
+fn queue(alloc: Global, end: &mut End, tid: Tid, body: &Bytes) -> Result<Outcome, Memory>
+    requires some { 1 ≤ length body.now }
+    requires limit { length body.now ≤ msdu_limit }
+    requires room { length (lane_at end.old tid).queue < 2 ^ 32 - 8192 }
+    ensures answer { IfOk result (λ o. o ≡ IsQueued (length (lane_at end.old tid).queue)) }
+    ensures plain { IfOk result IsPlain }
+    ensures after { IfOk result (λ o. end.new ≡ after_queue tid body.now end.old) }
+    ensures unchanged { OnErr result (end.new ≡ end.old) }
+{
+    let body = Bytes::from_slice(alloc, body.as_slice())?;
+    let pos = end.queue(tid, body)?;
+    Ok(Outcome::Queued { pos })
+}
+
 /// Lets an end take an acknowledgement, where it is there.
 fn take(end: &mut End, ack: Option<&Ack>) -> Outcome
     ensures answer { result ≡ ack_answer (option_copied ack.entry) end.old }
@@ -130,9 +145,11 @@ fn both(answer: Result<Outcome, Memory>) -> Result<(Outcome, Outcome), StepFault
 }
 
 impl Air {
+    ghost use Rattle.std.specs.Borrow.{sem};
+    ghost use Rattle.wl_air.specs.Lending.{LendsEnd};
     ghost use Rattle.wl_elem.specs.declared.lane.EndId.{EndId};
     ghost use Rattle.wl_history.specs.AirState.{end_of, acks_of, with_end, with_acks, ack_named, octets_named, begun, after};
-    ghost use Rattle.wl_air.specs.Air.{AreJoined, CanStart, Joined};
+    ghost use Rattle.wl_air.specs.Air.{AreJoined, CanStart, KnowsPeer};
 
     /// Two ends that did nothing yet. `Memory` where there was none for their windows.
     ///
@@ -162,72 +179,14 @@ impl Air {
         }
     }
 
-    /// Queues a body at an end.
-    fn queue(
-        &mut self,
-        alloc: Global,
-        end: EndId,
-        tid: Tid,
-        body: &Bytes,
-    ) -> Result<Outcome, Memory>
-        requires some { 1 ≤ length body.now }
-        requires limit { length body.now ≤ msdu_limit }
-        requires room { length (lane_at (end_of self.old end) tid).queue < 2 ^ 32 - 8192 }
-        ensures answer { IfOk result (λ o. o ≡ IsQueued (length (lane_at (end_of self.old end) tid).queue)) }
-        ensures plain { IfOk result IsPlain }
-        ensures after { IfOk result (λ o. self.new ≡ with_end end (after_queue tid body.now (end_of self.old end)) self.old) }
-        ensures unchanged { OnErr result (self.new ≡ self.old) }
-    {
-        let body = Bytes::from_slice(alloc, body.as_slice())?;
-        let pos = match end {
-            EndId::Ap => self.ap.queue(tid, body)?,
-            EndId::Sta => self.sta.queue(tid, body)?,
-        };
-        Ok(Outcome::Queued { pos })
-    }
-
-    /// Reserves at an end.
-    fn reserve(&mut self, end: EndId, thread: u16, lane: &Lane) -> Result<Outcome, Memory>
-        ensures answer { IfOk result (λ o. o ≡ reserve_answer (hand_of (end_of self.old end).hands thread) (length (lane_at (end_of self.old end) (lane_index lane.now)).queue) (lane_at (end_of self.old end) (lane_index lane.now)).sending (send_size (end_of self.old end).start (lane_index lane.now))) }
-        ensures plain { IfOk result IsPlain }
-        ensures after { IfOk result (λ o. self.new ≡ with_end end (after_reserve thread lane.now o (end_of self.old end)) self.old) }
-        ensures unchanged { OnErr result (self.new ≡ self.old) }
+    /// An end, to be changed.
+    fn end_mut(&mut self, end: EndId) -> &mut End
+        ensures* writes_back { sem 𝓛 (LendsEnd self.entry end result) }
+        ensures value { result.now ≡ end_of self.old end }
     {
         match end {
-            EndId::Ap => self.ap.reserve(thread, *lane),
-            EndId::Sta => self.sta.reserve(thread, *lane),
-        }
-    }
-
-    /// Books at an end.
-    fn book(&mut self, end: EndId, thread: u16) -> Result<Outcome, Memory>
-        ensures answer { IfOk result (λ o. o ≡ book_answer (hand_of (end_of self.old end).hands thread) (end_of self.old end).numbers) }
-        ensures plain { IfOk result IsPlain }
-        ensures after { IfOk result (λ o. self.new ≡ with_end end (after_book thread o (end_of self.old end)) self.old) }
-        ensures unchanged { OnErr result (self.new ≡ self.old) }
-    {
-        match end {
-            EndId::Ap => self.ap.book(thread),
-            EndId::Sta => self.sta.book(thread),
-        }
-    }
-
-    /// Puts at an end.
-    fn put<Z: Sealer>(
-        &mut self,
-        end: EndId,
-        thread: u16,
-        link: LinkId,
-        z: &Z,
-    ) -> Result<Outcome, Memory>
-        ensures answer { IfOk result (λ o. o ≡ put_of link (hand_of (end_of self.old end).hands thread) (end_of self.old end)) }
-        ensures plain { IfOk result IsPlain }
-        ensures after { IfOk result (λ o. self.new ≡ with_end end (after_put thread link (aired_octets (Z.text z.now) link (hand_of (end_of self.old end).hands thread) (end_of self.old end)) o (end_of self.old end)) self.old) }
-        ensures unchanged { OnErr result (self.new ≡ self.old) }
-    {
-        match end {
-            EndId::Ap => self.ap.put(thread, link, z),
-            EndId::Sta => self.sta.put(thread, link, z),
+            EndId::Ap => &mut self.ap,
+            EndId::Sta => &mut self.sta,
         }
     }
 
@@ -300,8 +259,8 @@ impl Air {
     /// Lets an end do a command of a thread. The answer comes twice: for the caller and for the journal.
     ///
     /// `Forged` exactly where a delivered frame opens and its sender has no booking of what it opens to.
-    /// After an error nothing has changed. What is answered of a frame that is heard is told of ends that
-    /// know each other's addresses.
+    /// After an error nothing has changed. What is answered of a frame that is heard is told of an end
+    /// that knows its peer's addresses; every other answer of any two ends.
     ///
     /// Conditions: a body to be queued has 1 to 2,304 octets, no queue has 2^32 - 8,192 bodies or more,
     /// and no window starts there or higher.
@@ -314,18 +273,18 @@ impl Air {
     ) -> Result<(Outcome, Outcome), StepFault>
         requires fits { BodyFits command.now }
         requires roomy { (e : EndId) → IsRoomy (end_of self.old e) }
-        ensures answer { IfOk result (λ o. Joined self.old → IsAnswer (Z.text z.now) thread command.now self.old o.0) }
-        ensures unforged { IfOk result (λ o. Joined self.old → (opened : Opened) → Forges (Z.text z.now) command.now self.old opened → ⊥) }
+        ensures answer { IfOk result (λ o. KnowsPeer command.now self.old → IsAnswer (Z.text z.now) thread command.now self.old o.0) }
+        ensures unforged { IfOk result (λ o. KnowsPeer command.now self.old → (opened : Opened) → Forges (Z.text z.now) command.now self.old opened → ⊥) }
         ensures after { IfOk result (λ o. self.new ≡ after (Z.text z.now) thread command.now o.0 self.old) }
         ensures again { IfOk result (λ o. o.1 ≡ o.0) }
-        ensures fault { IfErr result (λ f. Joined self.old → IsStepFault (Z.text z.now) command.now self.old f) }
+        ensures fault { IfErr result (λ f. KnowsPeer command.now self.old → IsStepFault (Z.text z.now) command.now self.old f) }
         ensures unchanged { OnErr result (self.new ≡ self.old) }
     {
         match command {
-            Command::Queue { end, tid, body } => both(self.queue(alloc, *end, *tid, body)),
-            Command::Reserve { end, lane } => both(self.reserve(*end, thread, lane)),
-            Command::Book { end } => both(self.book(*end, thread)),
-            Command::Put { end, link } => both(self.put(*end, thread, *link, z)),
+            Command::Queue { end, tid, body } => both(queue(alloc, self.end_mut(*end), *tid, body)),
+            Command::Reserve { end, lane } => both(self.end_mut(*end).reserve(thread, *lane)),
+            Command::Book { end } => both(self.end_mut(*end).book(thread)),
+            Command::Put { end, link } => both(self.end_mut(*end).put(thread, *link, z)),
             Command::Deliver { end, link, nth } => self.deliver(alloc, *end, *link, *nth, z),
             Command::AckOut { end, lane } => match self.ack_out(alloc, *end, lane) {
                 Ok(both) => Ok(both),

@@ -42,9 +42,9 @@ fn take(
     body: Bytes,
 ) -> Result<(Outcome, Outcome), Memory>
     requires { (lane_at own.old (lane_index lane.now)).window.start < 2 ^ 32 - 8192 }
-    ensures answer { IfOk result (λ o. o.0 ≡ hear_answer lane.now number (receive_size own.old.start (lane_index lane.now)) (record { numbers = numbers.now; body = body }) own.old) }
+    ensures answer { IfOk result (λ o. o.0 ≡ hear_answer lane.now number (receive_size own.old.setup (lane_index lane.now)) (record { numbers = numbers.now; body = body }) own.old) }
     ensures again { IfOk result (λ o. o.1 ≡ o.0) }
-    ensures after { OnOk result (own.new ≡ after_hear lane.now number (receive_size own.old.start (lane_index lane.now)) (record { numbers = numbers.now; body = body }) own.old) }
+    ensures after { OnOk result (own.new ≡ after_hear lane.now number (receive_size own.old.setup (lane_index lane.now)) (record { numbers = numbers.now; body = body }) own.old) }
     ensures unchanged { OnErr result (own.new ≡ own.old) }
 {
     let room = PositionsRoom::new(alloc, own.held(*lane) + 1)?;

@@ -5,12 +5,10 @@ mod acks;
 mod air;
 mod fault;
 mod heard;
-mod laws;
 mod script;
 mod world;
 
 pub use acks::Acks;
 pub use air::Air;
 pub use fault::StepFault;
-pub use laws::played_once;
 pub use world::World;

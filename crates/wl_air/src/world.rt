@@ -5,7 +5,7 @@ ghost use Rattle.wl_history.specs.declared.opened.Opened.{Opened};
 ghost use Rattle.wl_history.specs.declared.step.Step.{Step};
 ghost use Rattle.wl_history.specs.Ends.{IsStart};
 ghost use Rattle.wl_history.specs.Legal.{Fits, Forges, InRanges, InWord, step_limit};
-ghost use Rattle.wl_history.specs.Runs.{step_of};
+ghost use Rattle.wl_history.specs.Scripts.{step_of};
 ghost use Rattle.wl_history.specs.Safe.{Safe};
 ghost use Rattle.wl_air.specs.Acting.{BodyFits, IsStepFault};
 ghost use Rattle.wl_air.specs.World.{IsRoomy};
@@ -17,7 +17,8 @@ use std::marker::Model;
 use wl_elem::{EndId, Memory};
 use wl_end::End;
 use wl_frame::Sealer;
-use wl_history::{Command, Journal, Outcome, Start, Step, Steps, every_history_is_safe};
+use wl_history::{Arrival, Command, Journal, Outcome, Start, Step, Steps, every_history_is_safe};
+use wl_window::stored_near;
 
 /// Two ends, the air between them, and the history of all steps that they made.
 #[derive(Debug, Drop)]
@@ -127,6 +128,7 @@ impl World {
         ensures unchanged { OnErr result (self.new ≡ self.old) }
     {
         every_history_is_safe();
+        stored_near::<Arrival>();
         test_ranges(&command);
         // The room for the step is taken first: what an end did can't be undone.
         self.journal.steps.push(Step {

@@ -70,3 +70,6 @@ and-subset a b low subset = same_from_bits_below 15 (bit_and a b) a (omega (arit
 
 pub mask_small : (link : ℕ) → link < 15 → mask link < 2 ^ 15
 mask_small link within = let low : 2 ^ link ≤ 2 ^ 14 = pow_mono {i = link} {j = 14} (omega arith) in omega (arith, low)
+
+pub mask_is : (link : ℕ) → link < 15 → mask link ≡ 2 ^ link
+mask_is link within = let low : 2 ^ link ≤ 2 ^ 14 = pow_mono {i = link} {j = 14} (omega arith) in omega (arith, low)

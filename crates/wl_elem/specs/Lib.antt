@@ -14,3 +14,4 @@ pub mod Bits
 pub mod Fields
 pub mod Links
 pub mod Lanes
+pub mod Pairs

@@ -1,5 +1,5 @@
 -- Sets of links as bitmaps, bit n for link n.
-use Rattle.std.specs.Prelude.{◌≡◌, ℕ, ◌<◌, ◌==◌, Bool, true}
+use Rattle.std.specs.Prelude.{◌≡◌, ℕ, ◌<◌, ◌==◌, ◌^◌, bit_or, Bool, true}
 use Rattle.std.specs.Int.{bit_at}
 
 -- link IDs are below 15: the standard reserves 15
@@ -12,6 +12,10 @@ set_limit = 32768
 
 abbrev pub has_link : ℕ → ℕ → Bool
 has_link links link = bit_at links link == 1
+
+-- a set with a link in it
+abbrev pub set_with : ℕ → ℕ → ℕ
+set_with links link = bit_or links (2 ^ link)
 
 -- each link of the one set is in the other
 abbrev pub IsSubset : ℕ → ℕ → Type 0

@@ -11,6 +11,10 @@ use std::alloc::{AllocError, AllocFailed};
 #[derive(Clone, Copy, Debug, PartialEq, Eq)]
 pub struct Memory;
 
+/// The temporal key is the last one, number 65,535: there is none after it.
+#[derive(Clone, Copy, Debug, PartialEq, Eq)]
+pub struct KeysSpent;
+
 impl From<AllocError> for Memory {
     fn from(_e: AllocError) -> Memory {
         Memory

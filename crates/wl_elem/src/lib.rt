@@ -34,7 +34,7 @@ pub use decode::decode_elements;
 pub use element::Element;
 pub use elements::{Elements, find};
 pub use encode::{encode_elements, encoded_len};
-pub use fault::{Fault, Memory, Refusal};
+pub use fault::{Fault, KeysSpent, Memory, Refusal};
 pub use fields::{
     first_cut, first_mac, first_u16, has_bit, mac_at, mac_if, mac_len, put_mac, put_short, put_u8,
     put_u16, put_u24, put_u64, short_if, short_len, u8_if, u8_len, u16_at, u16_if, u16_len, u24_if,

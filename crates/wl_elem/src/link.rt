@@ -1,7 +1,7 @@
 //! Links and sets of links (IEEE Std 802.11be, 35.3).
 
 ghost use Rattle.std.specs.Prelude.{◌≡◌, ◌↔◌, ◌<◌, ◌||◌, ◌&&◌, ◌==◌, not, count_ones, ℕ, IsSome, IfSome, IsTrue};
-ghost use Rattle.wl_elem.specs.Links.{link_limit, set_limit, has_link, IsSubset};
+ghost use Rattle.wl_elem.specs.Links.{link_limit, set_limit, has_link, set_with, IsSubset};
 
 use std::marker::Model;
 
@@ -91,7 +91,8 @@ impl LinkSet {
 
     /// The set with this link in it.
     pub fn with(&self, link: LinkId) -> LinkSet
-        ensures { (k : ℕ) → k < link_limit → has_link result k ≡ (has_link self.now k || k == link) }
+        ensures value { result ≡ set_with self.now link }
+        ensures has { (k : ℕ) → k < link_limit → has_link result k ≡ (has_link self.now k || k == link) }
     {
         LinkSet {
             bits: self.bits | 1 << link.id,

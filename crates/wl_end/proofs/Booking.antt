@@ -7,7 +7,8 @@ use Rattle.wl_elem.specs.declared.lane.Lane.{Lane}
 use Rattle.wl_elem.specs.Lanes.{lane_index, at_place}
 use Rattle.wl_number.specs.declared.numbers.Numbers.{Numbers}
 use Rattle.wl_number.specs.NumberObject.{NumberObject, position_of, drawn}
-use Rattle.wl_number.specs.OrderRule.{list_at, list_of, is_below, pair_below, NoneBreaks}
+use Rattle.wl_elem.specs.Pairs.{pair_below}
+use Rattle.wl_number.specs.OrderRule.{list_at, list_of, is_below, NoneBreaks}
 use Rattle.wl_window.specs.Originating.{is_booked, booked_count}
 use Rattle.wl_history.specs.declared.hand.Hand.{Hand}
 use Rattle.wl_history.specs.declared.hand.Hand.TheVariants.{Empty, Reserve, Booking}
@@ -58,20 +59,19 @@ lower_is_absent (n ∷ ns) pos lower =
 pub next_is_free : (s : EndState) (lane : Lane) (pos : ℕ) → IsEnd s → pos ≡ position_of s.numbers lane → is_booked (lane_at s (lane_index lane)).sending pos ≡ false
 next_is_free s lane pos is next =
     let k = lane_index lane in
-    let here : pos ≡ length (list_at s.booked k) = next ∙ is.sender.position k in
-    is.sender.marked k pos ∙ lower_is_absent (list_at s.booked k) pos (λ n there. omega (arith, is.sender.lower k n there))
+    is.sender.marked k pos ∙ lower_is_absent (list_at s.booked k) pos (λ n there. omega (arith, next, is.sender.above k n there))
 
 pub draw_breaks_none : HighestBreaksNone → DrawnAbove → (s : EndState) (lane : Lane) → IsEnd s → NoneBreaks s.booked lane (drawn s.numbers lane)
 draw_breaks_none highest above s lane is =
     highest s.booked lane (drawn s.numbers lane)
     (λ place b there. above s.numbers lane b (is.sender.last place b there))
-    (λ b there. omega (arith, is.sender.lower (lane_index lane) b there, is.sender.position (lane_index lane)))
+    (is.sender.above (lane_index lane))
 
 -- the position that a reserve is booked at is one of the queue
 pub next_is_queued : (s : EndState) (thread : ℕ) (lane : Lane) → IsEnd s → hand_of s.hands thread ≡ Reserve lane → position_of s.numbers lane < length (lane_at s (lane_index lane)).queue
 next_is_queued s thread lane is held =
     let k = lane_index lane in
-    omega (arith, is.sender.position k, is.sender.counted k, is.sender.within k, reserve_is_counted s.hands thread lane held)
+    omega (arith, is.gapless.next k, is.sender.counted k, is.sender.within k, reserve_is_counted s.hands thread lane held)
 
 -- ---- a booking leaves a hand
 

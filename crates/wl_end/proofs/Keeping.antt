@@ -51,14 +51,15 @@ heard_by law s lane Old is = subst (λ (l : List LaneState). IsEnd (heard_at s l
 heard_by law s lane Doubled is = subst (λ (l : List LaneState). IsEnd (heard_at s l s.last)) (sym (set-get_or s.lanes (lane_index lane) no_lane)) is
 heard_by law s lane (Stored moved) is = law s lane (Stored moved) is
 
-pub heard_kept : {H E : Type 0} → HearKeeps → (s : EndState) (lane : Lane) (a : Arrived Arrival) (r : Result H E) (lanes : List LaneState) (last : List (Option Pair)) → IsEnd s
-    → OnOk r (lanes ≡ with_lane_of s.lanes lane (lane_after (last_of s.last lane) a (lane_at s (lane_index lane)))) → OnOk r (last ≡ pairs_after lane a s.last) → OnErr r (lanes ≡ s.lanes) → OnErr r (last ≡ s.last)
-    → IsEnd (heard_at s lanes last)
-heard_kept law s lane a (Ok h) lanes last is p q p' q' =
-    subst (λ (l : List LaneState). IsEnd (heard_at s l last)) (sym p)
+pub heard_kept : {H E : Type 0} → HearKeeps → (s : EndState) (lane : Lane) (a : Arrived Arrival) (r : Result H E) (new : LaneState) (last : List (Option Pair)) → IsEnd s
+    → OnOk r (new ≡ lane_after (last_of s.last lane) a (lane_at s (lane_index lane))) → OnOk r (last ≡ pairs_after lane a s.last) → OnErr r (new ≡ lane_at s (lane_index lane)) → OnErr r (last ≡ s.last)
+    → IsEnd (heard_at s (with_lane_of s.lanes lane new) last)
+heard_kept law s lane a (Ok h) new last is p q p' q' =
+    subst (λ (l : LaneState). IsEnd (heard_at s (with_lane_of s.lanes lane l) last)) (sym p)
     (subst (λ (o : List (Option Pair)). IsEnd (heard_at s (with_lane_of s.lanes lane (lane_after (last_of s.last lane) a (lane_at s (lane_index lane)))) o)) (sym q) (heard_by law s lane a is))
-heard_kept law s lane a (Err e) lanes last is p q p' q' =
-    subst (λ (l : List LaneState). IsEnd (heard_at s l last)) (sym p') (subst (λ (o : List (Option Pair)). IsEnd (heard_at s s.lanes o)) (sym q') is)
+heard_kept law s lane a (Err e) new last is p q p' q' =
+    subst (λ (l : LaneState). IsEnd (heard_at s (with_lane_of s.lanes lane l) last)) (sym p')
+    (subst (λ (l : List LaneState). IsEnd (heard_at s l last)) (sym (set-get_or s.lanes (lane_index lane) no_lane)) (subst (λ (o : List (Option Pair)). IsEnd (heard_at s s.lanes o)) (sym q') is))
 
 -- ---- acknowledging
 

@@ -3,7 +3,6 @@ pub mod Counting
 pub mod Keeping
 pub mod Booking
 pub mod Writing
-pub mod Octets
 pub mod Finding
 pub mod Releasing
 pub mod Rising

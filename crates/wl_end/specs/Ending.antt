@@ -1,10 +1,10 @@
 -- What holds of each end.
-use Rattle.std.specs.Prelude.{◌≤◌}
+use Rattle.std.specs.Prelude.{◌≡◌, ℕ, ◌<◌, true}
+use Rattle.wl_elem.specs.Links.{link_limit}
+use Rattle.wl_history.specs.Ends.{is_link, is_set_up}
 use Rattle.wl_history.specs.EndState.{EndState, IsEnd}
-use Rattle.wl_end.specs.Parts.{window_limit}
 
--- an end is sound, and its windows have the sizes that are built
+-- an end is sound, and each link that it has set up is one of its links
 pub record IsKept (s : EndState) : Type 0 where
   pub sound : IsEnd s
-  pub some_window : 1 ≤ s.start.window
-  pub no_more : s.start.window ≤ window_limit
+  pub known : (link : ℕ) → link < link_limit → is_set_up s.setup link ≡ true → is_link s.start link ≡ true

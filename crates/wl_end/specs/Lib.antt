@@ -1,4 +1,5 @@
 pub mod Parts
+pub mod Lending
 pub mod Ending
 pub mod Putting
 pub mod Peeking

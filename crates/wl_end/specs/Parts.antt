@@ -26,7 +26,7 @@ IsShort body = length body ≤ msdu_limit
 pub record IsLaneKept (queue : List (List ℕ)) (store : Store Arrival) (waiting : List Arrival) (marks : ℕ) : Type 0 where
   pub short : AllByRecursion IsShort queue
   pub countable : length queue < 2 ^ 32
-  pub room : store.room ≡ window_limit
+  pub room : store.room ≤ window_limit
   pub drained : waiting ≡ []
   pub markable : length queue ≤ marks
 

@@ -61,7 +61,7 @@ PeekedAs text start (ToOpen c) peek = OpenedAs text start c peek
 pub record IsPeek (text : Sealing) (s : EndState) (link : ℕ) (octets : List ℕ) (peek : Peek) : Type 0 where
   pub reading : Result FrameValue Refusal
   pub read : ReadAs octets reading
-  pub peeked : PeekedAs text s.start (judged s.start s.start.end s.newest link reading) peek
+  pub peeked : PeekedAs text s.start (judged s.start s.setup s.start.end link reading) peek
 
 -- what is opened has a lane and a number of 12 bits, and what is answered carries no list
 abbrev pub PeekFits : Peek → Type 0

@@ -25,14 +25,14 @@ use crate::frames::Frames;
 use crate::hands::Hands;
 use crate::heard::Heard;
 use crate::lanes::Lanes;
-use crate::links::{is_set_up, link_at, links_set_up};
+use crate::links::{link_at, links_set_up};
 use crate::peek::{Peek, peek_frame};
 use std::alloc::Global;
 use std::marker::Model;
 use wl_elem::{Bytes, EndId, Lane, LinkId, LinkSet, Memory, Tid};
 use wl_frame::{Sealer, decode_frame};
 use wl_history::{
-    Ack, Arrival, EndStart, Hand, KeptWhy, Opened, Outcome, SequenceNumbers, an_end_keeps,
+    Ack, Arrival, EndStart, Hand, KeptWhy, Opened, Outcome, SequenceNumbers, Setup, an_end_keeps,
 };
 use wl_number::{Bookings, NumberState, Numbers, a_draw_is_next, booked_once, highest_breaks_none};
 use wl_replay::{KeyRing, ReplayGuard};
@@ -52,7 +52,7 @@ pub struct End {
     numbers: NumberState,
     booked: Bookings,
     guard: ReplayGuard,
-    keys: KeyRing,
+    setup: Setup,
     frames: Frames,
 }
 
@@ -62,9 +62,9 @@ impl Model for End {
 
     ghost Value = { EndState };
 
-    ghost view = { λ e. record { start = e.start; lanes = e.lanes; hands = e.hands.hands; numbers = e.numbers; booked = e.booked.lanes; last = e.guard; newest = e.keys; frames = e.frames } };
+    ghost view = { λ e. record { start = e.start; lanes = e.lanes; hands = e.hands.hands; numbers = e.numbers; booked = e.booked.lanes; last = e.guard; setup = e.setup; frames = e.frames } };
 
-    ghost invariant = { λ e. IsKept (record { start = e.start; lanes = e.lanes; hands = e.hands.hands; numbers = e.numbers; booked = e.booked.lanes; last = e.guard; newest = e.keys; frames = e.frames }) };
+    ghost invariant = { λ e. IsKept (record { start = e.start; lanes = e.lanes; hands = e.hands.hands; numbers = e.numbers; booked = e.booked.lanes; last = e.guard; setup = e.setup; frames = e.frames }) };
 }
 
 /// The lane's TID is one of data.
@@ -78,23 +78,23 @@ fn test_lane(lane: &Lane)
 }
 
 /// How many positions from its base on a lane may have granted.
-fn send_size(start: &EndStart, lane: &Lane) -> u16
-    ensures { result ≡ send_size start.now (lane_index lane.now) }
+fn send_size(setup: &Setup, lane: &Lane) -> u16
+    ensures { result ≡ send_size setup.now (lane_index lane.now) }
 {
     test_lane(lane);
     match lane {
-        Lane::Tid(_) => start.window,
+        Lane::Tid(_) => setup.window,
         Lane::Management => 16,
     }
 }
 
 /// How many numbers the window of a lane has.
-fn receive_size(start: &EndStart, lane: &Lane) -> u16
-    ensures { result ≡ receive_size start.now (lane_index lane.now) }
+fn receive_size(setup: &Setup, lane: &Lane) -> u16
+    ensures { result ≡ receive_size setup.now (lane_index lane.now) }
 {
     test_lane(lane);
     match lane {
-        Lane::Tid(_) => start.window,
+        Lane::Tid(_) => setup.window,
         Lane::Management => 1,
     }
 }
@@ -148,7 +148,11 @@ impl End {
         let lanes = Lanes::new(alloc)?;
         let start = start.copy(alloc)?;
         let numbers = NumberState::new(start.first_key, start.first_pn);
-        let keys = KeyRing::new(start.newest);
+        let setup = Setup {
+            links: links_set_up(&start),
+            window: start.window,
+            keys: KeyRing::new(start.newest),
+        };
         Ok(End {
             alloc,
             start,
@@ -157,7 +161,7 @@ impl End {
             numbers,
             booked: Bookings::new(alloc),
             guard: ReplayGuard::new(),
-            keys,
+            setup,
             frames: Frames::new(alloc),
         })
     }
@@ -178,7 +182,7 @@ impl End {
         an_end_keeps();
         let lane = Lane::Tid(tid);
         let pos = self.lanes.at(&lane).queued();
-        self.lanes.queue(&lane, body)?;
+        self.lanes.at_mut(&lane).queue(body)?;
         Ok(pos)
     }
 
@@ -188,7 +192,7 @@ impl End {
     /// its reserve, WindowFull where as many positions are granted from the base on as the send size;
     /// the first of these that holds. They change nothing. After `Memory` nothing has changed.
     pub fn reserve(&mut self, thread: u16, lane: Lane) -> Result<Outcome, Memory>
-        ensures answer { IfOk result (λ o. o ≡ reserve_answer (hand_of self.old.hands thread) (length (lane_at self.old (lane_index lane)).queue) (lane_at self.old (lane_index lane)).sending (send_size self.old.start (lane_index lane))) }
+        ensures answer { IfOk result (λ o. o ≡ reserve_answer (hand_of self.old.hands thread) (length (lane_at self.old (lane_index lane)).queue) (lane_at self.old (lane_index lane)).sending (send_size self.old.setup (lane_index lane))) }
         ensures plain { IfOk result IsPlain }
         ensures after { IfOk result (λ o. self.new ≡ after_reserve thread lane o self.old) }
         ensures unchanged { OnErr result (self.new ≡ self.old) }
@@ -201,8 +205,8 @@ impl End {
             Hand::Reserve(_) | Hand::Booking(_, _) => return Ok(Outcome::HandFull),
         }
         self.hands.room_for(thread)?;
-        let size = send_size(&self.start, &lane);
-        match self.lanes.reserve(&lane, size) {
+        let size = send_size(&self.setup, &lane);
+        match self.lanes.at_mut(&lane).reserve(size) {
             Ok(()) => (),
             Err(OriginRefusal::NothingQueued) => return Ok(Outcome::NothingQueued),
             Err(OriginRefusal::WindowFull) => return Ok(Outcome::WindowFull),
@@ -219,7 +223,7 @@ impl End {
     {
         an_end_keeps();
         test_lane(lane);
-        self.lanes.give_back(lane);
+        self.lanes.at_mut(lane).give_back();
         self.hands.replace(thread, Hand::Empty);
     }
 
@@ -240,7 +244,7 @@ impl End {
         self.lanes.at(lane).queued();
         let pos = self.numbers.position(*lane);
         self.booked.reserve()?;
-        self.lanes.book(lane, pos)?;
+        self.lanes.at_mut(lane).book(pos)?;
         let n = next_of(&mut self.numbers, lane);
         enter(&mut self.booked, lane, n);
         self.hands.replace(thread, Hand::Booking(*lane, n));
@@ -283,7 +287,7 @@ impl End {
         z: &Z,
     ) -> Result<bool, Memory>
         requires held { hand_of self.old.hands thread ≡ HoldsBooking lane.now n.now }
-        requires set_up { is_set_up self.old.start link ≡ true }
+        requires set_up { is_set_up self.old.setup link ≡ true }
         ensures retry { IfOk result (λ retry. retry ≡ was_aired_at (lane_at self.old (lane_index lane.now)).aired n.now.pos) }
         ensures after { IfOk result (λ retry. self.new ≡ after_put thread link (aired_octets (Z.text z.now) link (hand_of self.old.hands thread) self.old) (Outcome.Put lane.now n.now retry) self.old) }
         ensures unchanged { OnErr result (self.new ≡ self.old) }
@@ -306,7 +310,7 @@ impl End {
         self.booked.at(*lane, n.pos);
         let octets = frame_octets(self.alloc, &self.start, &on, &flight, kept.body(n.pos), z)?;
         self.frames.push(link, octets)?;
-        self.lanes.air(lane, n.pos);
+        self.lanes.at_mut(lane).air(n.pos);
         self.hands.replace(thread, Hand::Empty);
         Ok(retry)
     }
@@ -341,7 +345,7 @@ impl End {
             self.put_down(thread);
             return Ok(Outcome::Nothing);
         }
-        if !is_set_up(&self.start, link) {
+        if !self.setup.links.has(link) {
             self.put_down(thread);
             return Ok(Outcome::Kept {
                 lane,
@@ -375,7 +379,7 @@ impl End {
         ensures sound { IsEnd self.now }
     {
         match decode_frame(octets) {
-            Ok(frame) => peek_frame(self.alloc, &self.start, &self.keys, link, &frame, z),
+            Ok(frame) => peek_frame(self.alloc, &self.start, &self.setup, link, &frame, z),
             Err(refusal) => Ok(Peek::Answered(Outcome::BadFrame {
                 why: refusal.why,
                 place: refusal.place,
@@ -416,9 +420,9 @@ impl End {
     /// Condition: the lane's window starts below 2^32 - 8,192.
     pub fn hear(&mut self, lane: Lane, number: u16, arrival: Arrival) -> Result<Outcome, Memory>
         requires { (lane_at self.old (lane_index lane)).window.start < 2 ^ 32 - 8192 }
-        ensures answer { IfOk result (λ o. o ≡ hear_answer lane number (receive_size self.old.start (lane_index lane)) arrival self.old) }
+        ensures answer { IfOk result (λ o. o ≡ hear_answer lane number (receive_size self.old.setup (lane_index lane)) arrival self.old) }
         ensures fits { IfOk result (FitsIn (length (lane_at self.old (lane_index lane)).window.slots + 1)) }
-        ensures after { OnOk result (self.new ≡ after_hear lane number (receive_size self.old.start (lane_index lane)) arrival self.old) }
+        ensures after { OnOk result (self.new ≡ after_hear lane number (receive_size self.old.setup (lane_index lane)) arrival self.old) }
         ensures unchanged { OnErr result (self.new ≡ self.old) }
         ensures sound { IsEnd self.new }
     {
@@ -428,10 +432,11 @@ impl End {
         if !self.guard.above(lane, numbers.key, numbers.pn) {
             return Ok(Outcome::Replay);
         }
-        let size = receive_size(&self.start, &lane);
+        let size = receive_size(&self.setup, &lane);
         let guard = &mut self.guard;
         let heard = self
             .lanes
+            .at_mut(&lane)
             .hear(self.alloc, &lane, number, size, arrival, guard);
         match heard {
             Ok(Heard::Old) => Ok(Outcome::OldNumber),
@@ -475,7 +480,9 @@ impl End {
     {
         an_end_keeps();
         test_lane(&ack.lane);
-        self.lanes.ack(&ack.lane, ack.start, ack.stored.as_slice())
+        self.lanes
+            .at_mut(&ack.lane)
+            .ack(ack.start, ack.stored.as_slice())
     }
 
     /// The frame of this number on a link, from 0. None exactly where fewer were aired there.
@@ -556,10 +563,10 @@ impl End {
 
     /// The links that are set up.
     pub fn links(&self) -> LinkSet
-        ensures value { (k : ℕ) → k < link_limit → has_link result k ≡ is_set_up self.now.start k }
+        ensures value { result ≡ self.now.setup.links }
         ensures sound { IsEnd self.now }
     {
-        links_set_up(&self.start)
+        self.setup.links
     }
 
     /// The number of the key that it sends under.
@@ -572,10 +579,10 @@ impl End {
 
     /// The number of the newest key that it holds.
     pub fn newest(&self) -> u16
-        ensures value { result ≡ self.now.newest }
+        ensures value { result ≡ self.now.setup.keys }
         ensures sound { IsEnd self.now }
     {
-        self.keys.newest()
+        self.setup.keys.newest()
     }
 
     /// What it started with.

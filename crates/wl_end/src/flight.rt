@@ -1,6 +1,6 @@
 //! What bodies are sealed under, and the frames that carry them.
 
-ghost use Rattle.std.specs.Prelude.{◌≡◌, ◌↔◌, ◌+◌, ◌^◌, ◌<◌, ◌≤◌, ℕ, List, Some, length, IfOk, IsTrue};
+ghost use Rattle.std.specs.Prelude.{◌≡◌, ◌↔◌, ◌+◌, ◌^◌, ◌<◌, ◌≤◌, ℕ, List, Some, length, IfOk, IsTrue, bytes_eq};
 ghost use Rattle.wl_number.specs.NumberObject.{InRange};
 ghost use Rattle.wl_frame.specs.Frame.{IsHeader, IsKind};
 ghost use Rattle.wl_frame.specs.Sealing.{IsUnder};
@@ -79,8 +79,9 @@ fn nominal(start: &EndStart, sender: EndId, lane: &Lane) -> Header
 }
 
 /// Whether two strings of octets are the same.
-fn is_same(a: &[u8], b: &[u8]) -> bool
-    ensures { IsTrue result ↔ (a.now ≡ b.now) }
+pub(crate) fn is_same(a: &[u8], b: &[u8]) -> bool
+    ensures value { result ≡ bytes_eq a.now b.now }
+    ensures same { IsTrue result ↔ (a.now ≡ b.now) }
 {
     a == b
 }

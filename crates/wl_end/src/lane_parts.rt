@@ -16,10 +16,7 @@ use std::marker::Model;
 use wl_elem::{Bytes, Lane, Memory};
 use wl_history::{Arrival, Positions};
 use wl_replay::ReplayGuard;
-use wl_window::{ArriveRefusal, Numbers12, Origin, OriginRefusal, Reorder, Ups, nothing_lost};
-
-/// The greatest size of a window.
-pub(crate) const WINDOW_LIMIT: u16 = 256;
+use wl_window::{ArriveRefusal, Numbers12, Origin, OriginRefusal, Reorder, Ups};
 
 /// What an end keeps of a lane: the sender's side, and the receiver's.
 #[derive(Debug, Drop)]
@@ -45,20 +42,21 @@ impl Model for LaneParts {
 
     ghost Value = { LaneState };
 
-    ghost view = { λ l. record { queue = l.queue; sending = l.origin.sending; window = l.reorder.window; released = l.released.items; aired = l.aired.items } };
+    ghost view = { λ l. record { queue = l.queue; sending = l.origin.sending; window = l.reorder.window; released = l.released.items; aired = l.aired.items; room = l.reorder.room } };
 
     ghost invariant = { λ l. IsLaneKept l.queue l.reorder l.ups.items (vec_capacity l.aired) };
 }
 
 impl LaneParts {
     ghost use Rattle.wl_history.specs.EndState.{LaneState, no_lane, was_aired_at, aired_at};
-    ghost use Rattle.wl_end.specs.Parts.{IsShort};
+    ghost use Rattle.wl_end.specs.Parts.{IsShort, window_limit};
 
-    /// Nothing is queued or received.
-    pub fn new(alloc: Global) -> Result<LaneParts, Memory>
-        ensures { IfOk result (λ l. l ≡ no_lane) }
+    /// Nothing is queued or received, and the window may have up to this size.
+    pub fn new(alloc: Global, room: u16) -> Result<LaneParts, Memory>
+        requires { (1 ≤ room) × (room ≤ window_limit) }
+        ensures { IfOk result (λ l. l ≡ record no_lane { room = room }) }
     {
-        let reorder = Reorder::new(alloc, WINDOW_LIMIT)?;
+        let reorder = Reorder::new(alloc, room)?;
         Ok(LaneParts {
             queue: Bodies::new(alloc),
             origin: Origin::new(alloc),
@@ -104,6 +102,7 @@ impl LaneParts {
         requires { self.old.sending.granted ≤ length self.old.queue }
         ensures answer { result ≡ granted_answer (reserved self.old.sending (length self.old.queue) size) }
         ensures after { self.new ≡ record self.old { sending = sending_after self.old.sending (reserved self.old.sending (length self.old.queue) size) } }
+        ensures unchanged { OnErr result (self.new ≡ self.old) }
     {
         let queued = self.queue.len() as u32;
         self.origin.reserve(queued, size)
@@ -207,7 +206,7 @@ impl LaneParts {
     ) -> Result<Heard, Memory>
         requires place { lane_index lane.now < length guard.old }
         requires some_size { 1 ≤ size }
-        requires size_limit { size ≤ 256 }
+        requires size_limit { size ≤ self.old.room }
         requires start { self.old.window.start < 2 ^ 32 - 4096 }
         ensures heard { IfOk result (λ h. h ≡ heard_of (last_of guard.old lane.now) (arrived self.old.window number size arrival)) }
         ensures fits { IfOk result (HeardFits (length self.old.window.slots + 1)) }
@@ -216,8 +215,7 @@ impl LaneParts {
         ensures unchanged { OnErr result (self.new ≡ self.old) }
         ensures same_pairs { OnErr result (guard.new ≡ guard.old) }
     {
-        nothing_lost::<Arrival>();
-        let most = self.reorder.held() + 1;
+        let most = self.reorder.due_on_arrival(number, size);
         let mut up = Vec::with_capacity(alloc, usize::from(most))?;
         self.released.reserve(usize::from(most))?;
         self.ups.reserve(most)?;

@@ -1,8 +1,8 @@
 //! The links of an end, and the addresses there.
 
-ghost use Rattle.std.specs.Prelude.{◌≡◌, ◌<◌, ℕ, false, is_some, length};
+ghost use Rattle.std.specs.Prelude.{◌≡◌, ◌<◌, ℕ, true, is_some, length};
 ghost use Rattle.wl_elem.specs.Links.{link_limit, has_link};
-ghost use Rattle.wl_history.specs.Ends.{mld_of, address_on, link_at, is_set_up};
+ghost use Rattle.wl_history.specs.Ends.{mld_of, address_on, is_link, link_at, links_begun, links_in};
 
 use wl_elem::{EndId, LinkId, LinkSet, MacAddr};
 use wl_history::{EndStart, LinkStart};
@@ -21,7 +21,8 @@ pub(crate) fn link_at(links: &[LinkStart], id: LinkId) -> Option<LinkStart>
 
 /// The set of these links.
 fn set_of(links: &[LinkStart]) -> LinkSet
-    ensures { (k : ℕ) → k < link_limit → has_link result k ≡ is_some (link_at k links.now) }
+    ensures value { result ≡ links_in 0 links.now }
+    ensures has { (k : ℕ) → k < link_limit → has_link result k ≡ is_some (link_at k links.now) }
 {
     let mut set = no_links();
     'links: for link in links {
@@ -32,7 +33,7 @@ fn set_of(links: &[LinkStart]) -> LinkSet
 
 /// No links.
 fn no_links() -> LinkSet
-    ensures { (k : ℕ) → k < link_limit → has_link result k ≡ false }
+    ensures { result ≡ 0 }
 {
     match LinkSet::from_bits(0) {
         Some(set) => set,
@@ -40,16 +41,10 @@ fn no_links() -> LinkSet
     }
 }
 
-/// Whether a link is set up.
-pub(crate) fn is_set_up(start: &EndStart, id: LinkId) -> bool
-    ensures { result ≡ is_set_up start.now id }
-{
-    start.associated && link_at(start.links.as_slice(), id).is_some()
-}
-
-/// The links that are set up.
+/// The links that are set up at the start.
 pub(crate) fn links_set_up(start: &EndStart) -> LinkSet
-    ensures { (k : ℕ) → k < link_limit → has_link result k ≡ is_set_up start.now k }
+    ensures value { result ≡ links_begun start.now }
+    ensures known { (k : ℕ) → k < link_limit → has_link result k ≡ true → is_link start.now k ≡ true }
 {
     if start.associated {
         set_of(start.links.as_slice())

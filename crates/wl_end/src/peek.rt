@@ -1,20 +1,20 @@
 //! What is seen of octets that are heard, before anything is kept of them.
 
-ghost use Rattle.std.specs.Prelude.{◌≡◌, ◌↔◌, ◌^◌, ◌<◌, IsTrue, length, IfOk, IfErr, IfSome};
+ghost use Rattle.std.specs.Prelude.{◌≡◌, ◌↔◌, ◌^◌, ◌<◌, IsTrue, length, IfOk, IfErr, IfSome, bytes_eq};
 ghost use Rattle.wl_elem.specs.Lanes.{IsLane};
 ghost use Rattle.wl_frame.specs.Frame.{IsHeader, IsProtection};
 ghost use Rattle.wl_frame.specs.Reading.{value};
 ghost use Rattle.wl_history.specs.Ends.{link_address};
 ghost use Rattle.wl_end.specs.Peeking.{verdict, closed_of, OpenedAs, PeekedAs, PeekFits};
 ghost use Rattle.wl_history.specs.Plain.{IsPlain};
-ghost use Rattle.wl_history.specs.Hearing.{same_octets, is_own_way, judged_frame, judged_kind, judged_protected};
+ghost use Rattle.wl_history.specs.Hearing.{is_own_way, judged_frame, judged_kind, judged_protected};
 
-use crate::flight::Under;
-use crate::links::{address_on, is_set_up, link_at};
+use crate::flight::{Under, is_same};
+use crate::links::{address_on, link_at};
 use std::alloc::Global;
 use wl_elem::{EndId, Lane, LinkId, MacAddr, Memory, Why};
 use wl_frame::{Frame, Header, Kind, Sealer, are_octets};
-use wl_history::{EndStart, Opened, Outcome};
+use wl_history::{EndStart, Opened, Outcome, Setup};
 use wl_replay::KeyRing;
 
 /// What an end sees of octets that came over a link.
@@ -48,20 +48,13 @@ pub(crate) struct Payload {
     pub pn: u64,
 }
 
-/// Whether two strings of octets are the same.
-fn same_octets(a: &[u8], b: &[u8]) -> bool
-    ensures { result ≡ same_octets a.now b.now }
-{
-    a == b
-}
-
 /// Whether an address is that of an end on a link.
 fn is_address(start: &EndStart, link: LinkId, end: EndId, address: &MacAddr) -> bool
-    ensures { result ≡ same_octets address.now (link_address start.now link end) }
+    ensures { result ≡ bytes_eq address.now (link_address start.now link end) }
 {
     let octets = address.octets();
     match link_at(start.links.as_slice(), link) {
-        Some(on) => same_octets(&octets, &address_on(&on, end).octets()),
+        Some(on) => is_same(&octets, &address_on(&on, end).octets()),
         None => false,
     }
 }
@@ -130,13 +123,13 @@ fn payload_of(keys: &KeyRing, frame: &Frame<'_>) -> Result<Payload, Outcome>
 /// The tests of a frame at its receiver, in order, and then its payload.
 fn judge(
     start: &EndStart,
-    keys: &KeyRing,
+    setup: &Setup,
     link: LinkId,
     frame: &Frame<'_>,
 ) -> Result<Payload, Outcome>
     requires header { IsHeader frame.now.header }
     requires protection { IfSome frame.now.protection IsProtection }
-    ensures judged { verdict result frame.now.payload.now ≡ judged_frame start.now start.now.end keys.now link (value frame.now) }
+    ensures judged { verdict result frame.now.payload.now ≡ judged_frame start.now setup.now start.now.end link (value frame.now) }
     ensures bound { IfOk result (λ p. p.pn < 2 ^ 48) }
     ensures number { IfOk result (λ p. p.number ≡ frame.now.header.number) }
     ensures lane { IfOk result (λ p. IsLane p.lane) }
@@ -144,7 +137,7 @@ fn judge(
 {
     let header = &frame.header;
     let receiver = start.end;
-    if header.kind.is_protected() && !is_set_up(start, link) {
+    if header.kind.is_protected() && !setup.links.has(link) {
         return Err(Outcome::LinkDown);
     }
     if !is_address(start, link, receiver, &header.a1) {
@@ -156,7 +149,7 @@ fn judge(
     if is_own_way(receiver, &header.kind) {
         return Err(wrong_address(1));
     }
-    payload_of(keys, frame)
+    payload_of(&setup.keys, frame)
 }
 
 /// Opens a payload.
@@ -205,17 +198,17 @@ fn open<Z: Sealer>(
 pub(crate) fn peek_frame<Z: Sealer>(
     alloc: Global,
     start: &EndStart,
-    keys: &KeyRing,
+    setup: &Setup,
     link: LinkId,
     frame: &Frame<'_>,
     z: &Z,
 ) -> Result<Peek, Memory>
     requires header { IsHeader frame.now.header }
     requires protection { IfSome frame.now.protection IsProtection }
-    ensures peeked { IfOk result (PeekedAs (Z.text z.now) start.now (judged_frame start.now start.now.end keys.now link (value frame.now))) }
+    ensures peeked { IfOk result (PeekedAs (Z.text z.now) start.now (judged_frame start.now setup.now start.now.end link (value frame.now))) }
     ensures fits { IfOk result PeekFits }
 {
-    match judge(start, keys, link, frame) {
+    match judge(start, setup, link, frame) {
         Ok(payload) => open(alloc, start, &payload, frame.payload, z),
         Err(outcome) => Ok(Peek::Answered(outcome)),
     }

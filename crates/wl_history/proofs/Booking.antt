@@ -1,5 +1,5 @@
 -- A booking of the next numbers.
-use Rattle.std.proofs.Common.{◌≡◌, ℕ, suc, ◌+◌, ◌<◌, Bool, true, false, eq-eqb, List, [], ◌∷◌, length, get_or, refl, sym, ap, subst, ◌∙◌, arith, inl, inr}
+use Rattle.std.proofs.Common.{◌≡◌, ℕ, suc, ◌+◌, ◌<◌, ◌≤◌, Bool, true, false, eq-eqb, List, [], ◌∷◌, length, get_or, refl, sym, ap, subst, ◌∙◌, arith, inl, inr}
 use Rattle.std.specs.Prelude.{◌⊎◌, ◌==◌, ◌||◌, nat_lt, if◌then◌else◌}
 use Rattle.std.proofs.lemmas.Bool.{eqb-true, ne_eqb}
 use Rattle.std.specs.List.{Contains}
@@ -7,7 +7,7 @@ use Rattle.std.proofs.lemmas.List.{length-set}
 use Rattle.wl_elem.specs.declared.lane.Lane.{Lane}
 use Rattle.wl_elem.specs.Lanes.{lane_index, lane_count, at_place, IsLane}
 use Rattle.wl_number.specs.declared.numbers.Numbers.{Numbers}
-use Rattle.wl_number.specs.NumberObject.{NumberObject, position_of, drawn, after_draw, entered}
+use Rattle.wl_number.specs.NumberObject.{NumberObject, position_of, drawn, after_draw}
 use Rattle.wl_number.specs.OrderRule.{is_below, list_at, list_of, entered_in, with_booking}
 use Rattle.wl_history.specs.declared.hand.Hand.{Hand}
 use Rattle.wl_history.specs.declared.hand.Hand.TheVariants as hand
@@ -15,8 +15,9 @@ use Rattle.wl_history.specs.Hands.{hand_of, set_hand, reserves, bit}
 use Rattle.wl_history.proofs.Lanes.{set_at, list_with, same_list, entered_is_there, others_are_there, entered_cases, length_entered}
 use Rattle.wl_history.proofs.Hands.{count_set}
 use Rattle.wl_window.specs.Originating.{Sending, with_booked, is_booked, booked_count}
-use Rattle.wl_history.specs.Sender.{IsHeld, IsSender, has_position}
-use Rattle.wl_history.proofs.Sender.{NumberLaws, WindowLaws, lane_within, held_after, of_lanes_after}
+use Rattle.wl_history.specs.Sender.{IsHeld, IsSender, IsGapless, has_position}
+use Rattle.wl_history.specs.Below.{NumberLaws, WindowLaws}
+use Rattle.wl_history.proofs.Sender.{lane_within, held_after, of_lanes_after}
 
 -- ---- what a lane's list has then
 
@@ -47,21 +48,24 @@ either_position : (b : Bool) (o : NumberObject) (lanes : List (List Numbers)) (l
 either_position true o lanes lane m n e here there = omega (arith, here, length_entered n (list_of lanes lane))
 either_position false o lanes lane m n e here there = there
 
-either_lower : (b : Bool) (o : NumberObject) (lanes : List (List Numbers)) (lane : Lane) (m : ℕ) (n k : Numbers) → at_place lane m ≡ b → n.pos ≡ length (list_of lanes lane)
-    → ((j : Numbers) → Contains (list_of lanes lane) j → j.pos < length (list_of lanes lane)) → ((j : Numbers) → Contains (list_at lanes m) j → j.pos < length (list_at lanes m))
-    → Contains (if b then entered_in n (list_of lanes lane) else list_at lanes m) k → k.pos < length (if b then entered_in n (list_of lanes lane) else list_at lanes m)
-either_lower true o lanes lane m n k e at here there is =
+-- the positions of a lane then: that of the new booking, and those that it had
+either_booked : (b : Bool) (lanes : List (List Numbers)) (lane : Lane) (m : ℕ) (n k : Numbers) (P : ℕ → Type 0) → at_place lane m ≡ b → (b ≡ true → P n.pos)
+    → ((j : Numbers) → Contains (list_at lanes m) j → P j.pos) → Contains (if b then entered_in n (list_of lanes lane) else list_at lanes m) k → P k.pos
+either_booked true lanes lane m n k P e here there is =
     elim (entered_cases n (list_of lanes lane) k is) [
-      | inl same ↦ omega (arith, at, ap (λ (x : Numbers). x.pos) same, length_entered n (list_of lanes lane))
-      | inr old ↦ omega (arith, here k old, length_entered n (list_of lanes lane))
+      | inl same ↦ subst (λ (x : Numbers). P x.pos) (sym same) (here refl)
+      | inr old ↦ there k (subst (λ (l : List Numbers). Contains l k) (same_list lanes lane m e) old)
     ]
-either_lower false o lanes lane m n k e at here there is = there k is
+either_booked false lanes lane m n k P e here there is = there k is
+
+-- the position that comes next isn't below what it was, and on the booking's lane is above it
+either_next : (b : Bool) (o : NumberObject) (lane : Lane) (m : ℕ) → at_place lane m ≡ b → get_or o.positions m 0 ≤ (if b then position_of o lane + 1 else get_or o.positions m 0)
+either_next true o lane m e = let same : position_of o lane ≡ get_or o.positions m 0 = ap (λ (j : ℕ). get_or o.positions j 0) (eqb-true (lane_index lane) m e) in omega (arith, same)
+either_next false o lane m e = omega arith
 
 either_length : (b : Bool) (lanes : List (List Numbers)) (lane : Lane) (m : ℕ) (n : Numbers) → at_place lane m ≡ b → length (if b then entered_in n (list_of lanes lane) else list_at lanes m) ≡ length (list_at lanes m) + bit b
 either_length true lanes lane m n e = omega (arith, length_entered n (list_of lanes lane), ap (λ (l : List Numbers). length l) (same_list lanes lane m e))
 either_length false lanes lane m n e = omega arith
-
--- ---- the booking
 
 -- ---- what the window knows
 
@@ -104,7 +108,7 @@ module _ (laws : NumberLaws) (windows : WindowLaws) (thread : ℕ) (lane : Lane)
   Booked l = sending' l ≡ (if at_place lane l then with_booked (sending l) n.pos else sending l)
 
   free_here : IsSender queue hands o lanes sending → is_booked (sending (lane_index lane)) n.pos ≡ false
-  free_here s = s.marked (lane_index lane) n.pos ∙ none_at (list_of lanes lane) n.pos (λ k is. let at = s.position (lane_index lane) in let lt = s.lower (lane_index lane) k is in omega (arith, at, lt))
+  free_here s = s.marked (lane_index lane) n.pos ∙ none_at (list_of lanes lane) n.pos (s.above (lane_index lane))
 
   free_at : IsSender queue hands o lanes sending → (l : ℕ) → at_place lane l ≡ true → is_booked (sending l) n.pos ≡ false
   free_at s l same = subst (λ (m : ℕ). is_booked (sending m) n.pos ≡ false) (eqb-true (lane_index lane) l same) (free_here s)
@@ -128,25 +132,35 @@ module _ (laws : NumberLaws) (windows : WindowLaws) (thread : ℕ) (lane : Lane)
   either_granted true l = refl
   either_granted false l = refl
 
-  drawn_sender : hand_of hands thread ≡ hand.Reserve lane → ((l : ℕ) → Booked l) → IsSender queue hands o lanes sending
+  -- the reserve in the hand was granted beyond all that are booked
+  next_queued : IsGapless o lanes → hand_of hands thread ≡ hand.Reserve lane → IsSender queue hands o lanes sending → n.pos < length (queue (lane_index lane))
+  next_queued gapless reserved s =
+      let k = lane_index lane in
+      let own : at_place lane k ≡ true = eq-eqb k k refl in
+      omega (arith, gapless.next k, s.counted k, s.within k, count_set k thread (hand.Booking lane n) hands, ap (λ (h : Hand). bit (reserves k h)) reserved, ap bit own)
+
+  pub booking : hand_of hands thread ≡ hand.Reserve lane → ((l : ℕ) → Booked l) → IsGapless o lanes → IsSender queue hands o lanes sending
       → IsSender queue (set_hand thread (hand.Booking lane n) hands) (after_draw o lane) (with_booking lanes lane n) sending'
-  drawn_sender reserved after s =
+  booking reserved after gapless s =
       let of_lane : IsLane lane = s.of_lanes thread lane reserved in
       let lt : lane_index lane < lane_count = lane_within lane of_lane in
       let within : lane_index lane < length lanes = omega (arith, lt, s.nine) in
-      let at : n.pos ≡ length (list_of lanes lane) = s.position (lane_index lane) in
+      let queued_next = next_queued gapless reserved s in
       record {
         nine = length-set lanes (lane_index lane) (entered_in n (list_of lanes lane)) ∙ s.nine;
         nine_positions = length-set o.positions (lane_index lane) (position_of o lane + 1) ∙ s.nine_positions;
-        rule = laws.entering lanes lane n within s.rule (laws.highest lanes lane n (below_n s) (λ k is. omega (arith, s.lower (lane_index lane) k is, at)));
+        rule = laws.entering lanes lane n within s.rule (laws.highest lanes lane n (below_n s) (s.above (lane_index lane)));
         last = last_after s within;
-        position = λ m.
-            set_at o.positions (lane_index lane) m (position_of o lane + 1) 0 (omega (arith, lt, s.nine_positions))
-            ∙ either_position (at_place lane m) o lanes lane m n refl (s.position (lane_index lane)) (s.position m)
-            ∙ ap (λ (l : List Numbers). length l) (sym (list_with lanes lane m n within));
-        lower = λ m k is.
-            subst (λ (l : List Numbers). k.pos < length l) (sym (list_with lanes lane m n within))
-            (either_lower (at_place lane m) o lanes lane m n k refl at (s.lower (lane_index lane)) (s.lower m) (subst (λ (l : List Numbers). Contains l k) (list_with lanes lane m n within) is));
+        above = λ m k is.
+            subst (λ (next : ℕ). k.pos < next) (sym (set_at o.positions (lane_index lane) m (position_of o lane + 1) 0 (omega (arith, lt, s.nine_positions))))
+            (either_booked (at_place lane m) lanes lane m n k (λ pos. pos < (if at_place lane m then position_of o lane + 1 else get_or o.positions m 0)) refl
+            (λ e. subst (λ (b : Bool). n.pos < (if b then position_of o lane + 1 else get_or o.positions m 0)) (sym e) (omega arith))
+            (λ j there. omega (arith, s.above m j there, either_next (at_place lane m) o lane m refl))
+            (subst (λ (l : List Numbers). Contains l k) (list_with lanes lane m n within) is));
+        queued = λ m k is.
+            either_booked (at_place lane m) lanes lane m n k (λ pos. pos < length (queue m)) refl
+            (λ e. subst (λ (j : ℕ). n.pos < length (queue j)) (eqb-true (lane_index lane) m e) queued_next) (s.queued m)
+            (subst (λ (l : List Numbers). Contains l k) (list_with lanes lane m n within) is);
         marked = λ m pos.
             ap (λ (t : Sending). is_booked t pos) (after m) ∙ either_marked s (at_place lane m) m pos refl ∙ ap (has_position pos) (sym (list_with lanes lane m n within));
         numbered = λ m.
@@ -164,6 +178,14 @@ module _ (laws : NumberLaws) (windows : WindowLaws) (thread : ℕ) (lane : Lane)
         of_lanes = of_lanes_after thread (hand.Booking lane n) hands (λ m e. absurd (cc e)) s.of_lanes;
       }
 
-  pub booking : hand_of hands thread ≡ hand.Reserve lane → ((l : ℕ) → Booked l) → IsSender queue hands o lanes sending
-      → IsSender queue (set_hand thread (hand.Booking lane n) hands) (entered o lane n) (with_booking lanes lane n) sending'
-  booking reserved after s = subst (λ (x : NumberObject). IsSender queue (set_hand thread (hand.Booking lane n) hands) x (with_booking lanes lane n) sending') (sym (laws.draw_enters o lane)) (drawn_sender reserved after s)
+  -- and no position is left out
+  pub booked_next : hand_of hands thread ≡ hand.Reserve lane → IsGapless o lanes → IsSender queue hands o lanes sending → IsGapless (after_draw o lane) (with_booking lanes lane n)
+  booked_next reserved gapless s =
+      let lt : lane_index lane < lane_count = lane_within lane (s.of_lanes thread lane reserved) in
+      let within : lane_index lane < length lanes = omega (arith, lt, s.nine) in
+      record {
+        next = λ m.
+            set_at o.positions (lane_index lane) m (position_of o lane + 1) 0 (omega (arith, lt, s.nine_positions))
+            ∙ either_position (at_place lane m) o lanes lane m n refl (gapless.next (lane_index lane)) (gapless.next m)
+            ∙ ap (λ (l : List Numbers). length l) (sym (list_with lanes lane m n within));
+      }

@@ -1,6 +1,6 @@
 -- The answers by cases: a property of each answer that a command can have.
 use Rattle.std.proofs.Common.{◌≡◌, ℕ, suc, ◌-◌, Bool, true, false, List, [], ◌∷◌, Option, Some, None, Result, Ok, Err, refl, sym, ap, subst, ◌∙◌, arith, inl, inr}
-use Rattle.std.specs.Prelude.{◌⊎◌, ◌==◌, ◌&&◌, nat_le, if◌then◌else◌, not}
+use Rattle.std.specs.Prelude.{◌⊎◌, ◌==◌, ◌&&◌, nat_le, if◌then◌else◌, not, bytes_eq}
 use Rattle.std.specs.List.{Contains}
 use Rattle.wl_elem.specs.declared.fault.Refusal.{Refusal}
 use Rattle.wl_elem.specs.declared.lane.EndId.{EndId}
@@ -21,10 +21,11 @@ use Rattle.wl_history.specs.declared.hand.Hand.TheVariants as hand
 use Rattle.wl_history.specs.declared.outcome.Outcome.{Outcome}
 use Rattle.wl_history.specs.declared.outcome.Outcome.TheVariants as outcomes
 use Rattle.wl_history.specs.declared.outcome.KeptWhy.TheVariants.{NotSetUp}
+use Rattle.wl_history.specs.declared.setup.Setup.{Setup}
 use Rattle.wl_history.specs.declared.start.EndStart.{EndStart}
 use Rattle.wl_history.specs.Plain.{IsPlain}
 use Rattle.wl_history.specs.Answers.{is_empty, granted_outcome, reserve_answer, book_answer, put_answer}
-use Rattle.wl_history.specs.Hearing.{Closed, Judged, Answered, ToOpen, with_key, judged_protected, judged_kind, judged, is_of, booking_of, same_octets, is_own_way}
+use Rattle.wl_history.specs.Hearing.{Closed, Judged, Answered, ToOpen, with_key, judged_protected, judged_kind, judged, is_of, booking_of, is_own_way}
 use Rattle.wl_history.specs.Ends.{is_set_up, link_address}
 use Rattle.wl_elem.specs.declared.why.Why.TheVariants.{WrongAddress}
 
@@ -95,14 +96,14 @@ plain_by false false true d w x y z last p q r s t = r
 plain_by false false false true w x y z last p q r s t = s
 plain_by false false false false w x y z last p q r s t = t
 
-pub judged_plain : (start : EndStart) (e : EndId) (newest link : ℕ) (reading : Result FrameValue Refusal) → JudgedPlain (judged start e newest link reading)
-judged_plain start e newest link (Ok f) =
-    plain_by (is_protected f.header.kind && not (is_set_up start link)) (not (same_octets f.header.a1 (link_address start link e))) (not (same_octets f.header.a2 (link_address start link (peer_of e)))) (is_own_way e f.header.kind)
-    outcomes.LinkDown (outcomes.BadFrame WrongAddress 4) (outcomes.BadFrame WrongAddress 10) (outcomes.BadFrame WrongAddress 1) (judged_kind newest f f.header.kind) tt tt tt tt (plain_kind newest f f.header.kind)
-judged_plain start e newest link (Err refusal) = tt
+pub judged_plain : (start : EndStart) (setup : Setup) (e : EndId) (link : ℕ) (reading : Result FrameValue Refusal) → JudgedPlain (judged start setup e link reading)
+judged_plain start setup e link (Ok f) =
+    plain_by (is_protected f.header.kind && not (is_set_up setup link)) (not (bytes_eq f.header.a1 (link_address start link e))) (not (bytes_eq f.header.a2 (link_address start link (peer_of e)))) (is_own_way e f.header.kind)
+    outcomes.LinkDown (outcomes.BadFrame WrongAddress 4) (outcomes.BadFrame WrongAddress 10) (outcomes.BadFrame WrongAddress 1) (judged_kind setup.keys f f.header.kind) tt tt tt tt (plain_kind setup.keys f f.header.kind)
+judged_plain start setup e link (Err refusal) = tt
 
-pub plain_answer : (start : EndStart) (e : EndId) (newest link : ℕ) (reading : Result FrameValue Refusal) (outcome : Outcome) → judged start e newest link reading ≡ Answered outcome → IsPlain outcome
-plain_answer start e newest link reading outcome is = subst JudgedPlain is (judged_plain start e newest link reading)
+pub plain_answer : (start : EndStart) (setup : Setup) (e : EndId) (link : ℕ) (reading : Result FrameValue Refusal) (outcome : Outcome) → judged start setup e link reading ≡ Answered outcome → IsPlain outcome
+plain_answer start setup e link reading outcome is = subst JudgedPlain is (judged_plain start setup e link reading)
 
 -- what is found by its text is one of the list, and has it
 found_by : (b : Bool) (text : Sealing) (start : EndStart) (e : EndId) (c : Closed) (bodies : List (List ℕ)) (m n : Numbers) (ms : List Numbers) → is_of text start e c bodies m ≡ b

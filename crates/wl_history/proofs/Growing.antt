@@ -5,14 +5,10 @@ use Rattle.std.specs.List.{Contains}
 use Rattle.std.proofs.lemmas.List.Elements.{Contains-append_cases}
 use Rattle.wl_elem.specs.declared.lane.Lane.{Lane}
 use Rattle.wl_number.specs.declared.numbers.Numbers.{Numbers}
-use Rattle.wl_number.specs.NumberObject.{NumberObject}
 use Rattle.wl_number.specs.OrderRule.{list_at, with_booking}
 use Rattle.wl_elem.specs.Lanes.{lane_index, IsLane}
-use Rattle.wl_history.specs.declared.hand.Hand.{Hand}
 use Rattle.wl_history.specs.Words.{body_at, Airing}
 use Rattle.wl_history.proofs.Lanes.{member_cases, no_member}
-use Rattle.wl_window.specs.Originating.{Sending}
-use Rattle.wl_history.specs.Sender.{IsSender}
 use Rattle.wl_history.proofs.Booking.{still_booked}
 
 -- the numbers are booked on the lane, and the body is the one queued at their position
@@ -20,11 +16,6 @@ pub record IsBooking (queue : ℕ → List (List ℕ)) (lanes : List (List Numbe
   pub booked : Contains (list_at lanes l) n
   pub within : n.pos < length (queue l)
   pub same : body ≡ body_at (queue l) n.pos
-
--- what is booked is below the queue's length
-pub position_queued : (queue : ℕ → List (List ℕ)) (hands : List Hand) (o : NumberObject) (lanes : List (List Numbers)) (sending : ℕ → Sending) → IsSender queue hands o lanes sending
-    → (l : ℕ) (n : Numbers) → Contains (list_at lanes l) n → n.pos < length (queue l)
-position_queued queue hands o lanes sending s l n is = omega (arith, s.lower l n is, s.counted l, s.within l)
 
 -- a place where something is booked is one of the lists
 pub contains_within : (lists : List (List Numbers)) (place : ℕ) (n : Numbers) → Contains (list_at lists place) n → place < length lists

@@ -19,12 +19,14 @@ use Rattle.wl_history.specs.declared.hand.Hand.{Hand}
 use Rattle.wl_history.specs.declared.hand.Hand.TheVariants.{Empty, Reserve, Booking}
 use Rattle.wl_history.specs.declared.outcome.Outcome.TheVariants as outcomes
 use Rattle.wl_history.specs.Hands.{hand_of, set_hand, reserves, bit}
-use Rattle.wl_history.specs.Sender.{IsSender, Regranted}
+use Rattle.wl_history.specs.Ends.{receive_size}
+use Rattle.wl_history.specs.Sender.{IsSender, IsGapless, Regranted}
 use Rattle.wl_history.specs.Words.{body_at}
 use Rattle.wl_history.specs.EndState.{EndState, LaneState, IsEnd, lane_at, frames_on, no_lane, with_lane, with_hand, with_frame, aired_at, let_up, after_queue, after_reserve, after_book, after_arrived, after_hear, after_acked, after_ack, acked_by}
 use Rattle.wl_history.proofs.Hands.{count_set}
-use Rattle.wl_history.proofs.Sender.{NumberLaws, WindowLaws, lane_within, still_sender, emptied, reserving}
-use Rattle.wl_history.proofs.Booking.{booking}
+use Rattle.wl_history.specs.Below.{NumberLaws, WindowLaws}
+use Rattle.wl_history.proofs.Sender.{lane_within, still_sender, emptied, reserving}
+use Rattle.wl_history.proofs.Booking.{booking, booked_next}
 
 -- ---- lanes, one of which changed
 
@@ -73,9 +75,9 @@ abbrev IsShortLane : LaneState → Type 0
 IsShortLane lane = (pos : ℕ) → length (body_at lane.queue pos) ≤ msdu_limit
 
 -- a lane keeps its queue or has a longer one, and what is booked
-pub lane_stays : (s : EndState) (k : ℕ) (new : LaneState) (last : List (Option Pair)) (frames : List (List (List ℕ))) → IsEnd s → IsShortLane new → length (lane_at s k).queue ≤ length new.queue → Keeps (lane_at s k).sending new.sending
+pub lane_stays : (s : EndState) (k : ℕ) (new : LaneState) (last : List (Option Pair)) (frames : List (List (List ℕ))) → IsEnd s → IsShortLane new → new.room ≡ (lane_at s k).room → length (lane_at s k).queue ≤ length new.queue → Keeps (lane_at s k).sending new.sending
     → length last ≡ lane_count → length frames ≡ 15 → IsEnd (changed s k new last frames)
-lane_stays s k new last frames is short longer keeps nine_pairs fifteen = record {
+lane_stays s k new last frames is short room longer keeps nine_pairs fifteen = record {
   nine = length-set s.lanes k new ∙ is.nine;
   nine_pairs = nine_pairs;
   fifteen = fifteen;
@@ -84,6 +86,9 @@ lane_stays s k new last frames is short longer keeps nine_pairs fifteen = record
       (λ l. any_lane (λ x. length (lane_at s l).queue ≤ length x.queue) s.lanes k l new (omega arith) (λ e. subst (λ (j : ℕ). length (lane_at s j).queue ≤ length new.queue) e longer))
       (λ l. any_lane (λ x. Keeps (lane_at s l).sending x.sending) s.lanes k l new (keeps_itself (lane_at s l).sending) (λ e. subst (λ (j : ℕ). Keeps (lane_at s j).sending new.sending) e keeps))
       is.sender;
+  gapless = is.gapless;
+  sized = is.sized;
+  roomy = λ l. any_lane (λ x. receive_size s.setup l ≤ x.room) s.lanes k l new (is.roomy l) (λ e. subst (λ (j : ℕ). receive_size s.setup j ≤ new.room) e (subst (λ (n : ℕ). receive_size s.setup k ≤ n) (sym room) (is.roomy k)));
 }
 
 short_more : (xs : List (List ℕ)) (body : List ℕ) (pos : ℕ) → length body ≤ msdu_limit → ((p : ℕ) → length (body_at xs p) ≤ msdu_limit) → length (body_at (xs ++ body ∷ []) pos) ≤ msdu_limit
@@ -94,7 +99,7 @@ short_more (x ∷ xs) body (suc pos) short old = short_more xs body pos short (�
 
 pub queue_kept : (s : EndState) (l : ℕ) (body : List ℕ) → IsEnd s → length body ≤ msdu_limit → IsEnd (after_queue l body s)
 queue_kept s l body is short =
-    lane_stays s l (record (lane_at s l) { queue = (lane_at s l).queue ++ body ∷ [] }) s.last s.frames is (λ pos. short_more (lane_at s l).queue body pos short (is.short l))
+    lane_stays s l (record (lane_at s l) { queue = (lane_at s l).queue ++ body ∷ [] }) s.last s.frames is (λ pos. short_more (lane_at s l).queue body pos short (is.short l)) refl
     (omega (arith, length-append (lane_at s l).queue (body ∷ []))) (keeps_itself (lane_at s l).sending) is.nine_pairs is.fifteen
 
 -- ---- a lane's sending changed, and a hand
@@ -104,9 +109,9 @@ sent_lane s k sending = record (lane_at s k) { sending = sending }
 
 -- the same queues, with what the sender keeps besides
 sent_end : (s : EndState) (k : ℕ) (sending : Sending) (hands : List Hand) (o : NumberObject) (booked : List (List Numbers)) → IsEnd s
-    → IsSender (λ l. (lane_at s l).queue) hands o booked (λ l. (lane_at (with_lane k (sent_lane s k sending) s) l).sending)
+    → IsGapless o booked → IsSender (λ l. (lane_at s l).queue) hands o booked (λ l. (lane_at (with_lane k (sent_lane s k sending) s) l).sending)
     → IsEnd (record (with_lane k (sent_lane s k sending) s) { hands = hands; numbers = o; booked = booked })
-sent_end s k sending hands o booked is sender =
+sent_end s k sending hands o booked is none_out sender =
     let after = with_lane k (sent_lane s k sending) s in
     record {
       nine = length-set s.lanes k (sent_lane s k sending) ∙ is.nine;
@@ -116,6 +121,9 @@ sent_end s k sending hands o booked is sender =
       sender = still_sender (λ l. (lane_at s l).queue) (λ l. (lane_at after l).queue) hands o booked (λ l. (lane_at after l).sending) (λ l. (lane_at after l).sending)
           (λ l. any_lane (λ x. length (lane_at s l).queue ≤ length x.queue) s.lanes k l (sent_lane s k sending) (omega arith) (λ e. subst (λ (j : ℕ). length (lane_at s j).queue ≤ length (lane_at s k).queue) e (omega arith)))
           (λ l. keeps_itself (lane_at after l).sending) sender;
+      gapless = none_out;
+      sized = is.sized;
+      roomy = λ l. any_lane (λ x. receive_size s.setup l ≤ x.room) s.lanes k l (sent_lane s k sending) (is.roomy l) (λ e. subst (λ (j : ℕ). receive_size s.setup j ≤ (lane_at s k).room) e (is.roomy k));
     }
 
 -- the same bookings on each lane, with other grants on one
@@ -136,7 +144,7 @@ reserve_kept s thread lane is lane_is empty more =
     set_lane (λ x. x.sending.granted ≡ (lane_at s l).sending.granted + bit (at_place lane l)) s.lanes k l (sent_lane s k sending) within
     (λ ne. let none : bit (at_place lane l) ≡ 0 = ap bit (ne_eqb k l ne) in omega (arith, none))
     (λ e. subst (λ (j : ℕ). (lane_at s k).sending.granted + 1 ≡ (lane_at s j).sending.granted + bit (at_place lane j)) e (let one : bit (at_place lane k) ≡ 1 = ap bit (at_own_place lane) in omega (arith, one))) in
-    sent_end s k sending (set_hand thread (Reserve lane) s.hands) s.numbers s.booked is
+    sent_end s k sending (set_hand thread (Reserve lane) s.hands) s.numbers s.booked is is.gapless
     (reserving thread lane (λ l. (lane_at s l).queue) s.hands s.numbers s.booked (λ l. (lane_at s l).sending) (λ l. (lane_at after l).sending) lane_is empty
     (regranted_lanes s k ((lane_at s k).sending.granted + 1)) granted
     (λ l. any_lane (λ x. x.sending.granted ≤ length (lane_at s l).queue) s.lanes k l (sent_lane s k sending) (is.sender.within l) (λ e. subst (λ (j : ℕ). (lane_at s k).sending.granted + 1 ≤ length (lane_at s j).queue) e room))
@@ -158,7 +166,7 @@ given_back s thread lane is held =
     (λ ne. let none : bit (reserves l (hand_of s.hands thread)) ≡ 0 = ap (λ (h : Hand). bit (reserves l h)) held ∙ ap bit (ne_eqb k l ne) in omega (arith, none))
     (λ e. subst (λ (j : ℕ). (lane_at s k).sending.granted - 1 + bit (reserves j (hand_of s.hands thread)) ≡ (lane_at s j).sending.granted) e
     (let one : bit (reserves k (hand_of s.hands thread)) ≡ 1 = ap (λ (h : Hand). bit (reserves k h)) held ∙ ap bit (at_own_place lane) in omega (arith, one, some))) in
-    sent_end s k sending (set_hand thread Empty s.hands) s.numbers s.booked is
+    sent_end s k sending (set_hand thread Empty s.hands) s.numbers s.booked is is.gapless
     (emptied thread (λ l. (lane_at s l).queue) s.hands s.numbers s.booked (λ l. (lane_at s l).sending) (λ l. (lane_at after l).sending) (regranted_lanes s k ((lane_at s k).sending.granted - 1)) granted is.sender)
 
 pub booked_so : NumberLaws → WindowLaws → (s : EndState) (thread : ℕ) (lane : Lane) → IsEnd s → hand_of s.hands thread ≡ Reserve lane → IsEnd (after_book thread (outcomes.Booked lane (drawn s.numbers lane)) s)
@@ -174,8 +182,8 @@ booked_so laws windows s thread lane is held =
     (λ e. subst (λ (j : ℕ). sending ≡ (if at_place lane j then with_booked (lane_at s j).sending n.pos else (lane_at s j).sending)) e
     (sym (ap (λ (b : Bool). if b then with_booked (lane_at s k).sending n.pos else (lane_at s k).sending) (at_own_place lane)))) in
     sent_end s k sending (set_hand thread (Booking lane n) s.hands) (after_draw s.numbers lane) (with_booking s.booked lane n) is
-    (subst (λ (o : NumberObject). IsSender (λ l. (lane_at s l).queue) (set_hand thread (Booking lane n) s.hands) o (with_booking s.booked lane n) (λ l. (lane_at after l).sending)) (laws.draw_enters s.numbers lane)
-    (booking laws windows thread lane (λ l. (lane_at s l).queue) s.hands s.numbers s.booked (λ l. (lane_at s l).sending) (λ l. (lane_at after l).sending) held later is.sender))
+    (booked_next laws windows thread lane (λ l. (lane_at s l).queue) s.hands s.numbers s.booked (λ l. (lane_at s l).sending) (λ l. (lane_at after l).sending) held is.gapless is.sender)
+    (booking laws windows thread lane (λ l. (lane_at s l).queue) s.hands s.numbers s.booked (λ l. (lane_at s l).sending) (λ l. (lane_at after l).sending) held later is.gapless is.sender)
 
 -- ---- a booking leaves a hand
 
@@ -189,13 +197,16 @@ puts_down s thread lane n is held =
       short = is.short;
       sender = emptied thread (λ l. (lane_at s l).queue) s.hands s.numbers s.booked (λ l. (lane_at s l).sending) (λ l. (lane_at s l).sending)
           (λ l. same_grants (lane_at s l).sending) (λ l. omega (arith, none l)) is.sender;
+      gapless = is.gapless;
+      sized = is.sized;
+      roomy = is.roomy;
     }
 
 pub aired_so : (s : EndState) (thread : ℕ) (lane : Lane) (n : Numbers) (link : ℕ) (octets : List ℕ) → IsEnd s → hand_of s.hands thread ≡ Booking lane n → IsEnd (with_hand thread Empty (with_frame link octets lane n s))
 aired_so s thread lane n link octets is held =
     let k = lane_index lane in
     let sound : IsEnd (with_frame link octets lane n s) =
-    lane_stays s k (record (lane_at s k) { aired = aired_at n.pos (lane_at s k).aired }) s.last (slice_set s.frames link (frames_on s link ++ octets ∷ [])) is (is.short k) (omega arith) (keeps_itself (lane_at s k).sending) is.nine_pairs (length-set s.frames link (frames_on s link ++ octets ∷ []) ∙ is.fifteen) in
+    lane_stays s k (record (lane_at s k) { aired = aired_at n.pos (lane_at s k).aired }) s.last (slice_set s.frames link (frames_on s link ++ octets ∷ [])) is (is.short k) refl (omega arith) (keeps_itself (lane_at s k).sending) is.nine_pairs (length-set s.frames link (frames_on s link ++ octets ∷ []) ∙ is.fifteen) in
     puts_down (with_frame link octets lane n s) thread lane n sound held
 
 -- ---- hearing and acknowledging
@@ -206,7 +217,7 @@ arrived_kept s lane Doubled is = is
 arrived_kept s lane (Stored moved) is =
     let k = lane_index lane in
     lane_stays s k (record (lane_at s k) { window = moved.window; released = (lane_at s k).released ++ (let_up (last_of s.last lane) moved.up).positions })
-    (slice_set s.last k (let_up (last_of s.last lane) moved.up).last) s.frames is (is.short k) (omega arith) (keeps_itself (lane_at s k).sending)
+    (slice_set s.last k (let_up (last_of s.last lane) moved.up).last) s.frames is (is.short k) refl (omega arith) (keeps_itself (lane_at s k).sending)
     (length-set s.last k (let_up (last_of s.last lane) moved.up).last ∙ is.nine_pairs) is.fifteen
 
 either_end : (b : Bool) (s t : EndState) → IsEnd s → IsEnd t → IsEnd (if b then t else s)
@@ -220,7 +231,7 @@ acked_kept : WindowLaws → (ack : Ack) (s : EndState) (a : Option Acked) → ac
 acked_kept windows ack s None e is = is
 acked_kept windows ack s (Some a) e is =
     let k = lane_index ack.lane in
-    lane_stays s k (sent_lane s k a.sending) s.last s.frames is (is.short k) (omega arith) (windows.acking (lane_at s k).sending ack.start ack.stored a e) is.nine_pairs is.fifteen
+    lane_stays s k (sent_lane s k a.sending) s.last s.frames is (is.short k) refl (omega arith) (windows.acking (lane_at s k).sending ack.start ack.stored a e) is.nine_pairs is.fifteen
 
 pub ack_kept : WindowLaws → (ack : Ack) (s : EndState) → IsEnd s → IsEnd (after_ack ack s)
 ack_kept windows ack s is = acked_kept windows ack s (acked_by ack s) refl is

@@ -11,3 +11,5 @@ pub mod Sound
 pub mod Safety
 pub mod Once
 pub mod Opening
+pub mod Cursors
+pub mod Scripts

@@ -13,7 +13,7 @@ use Rattle.wl_history.specs.declared.step.Step.{Step}
 use Rattle.wl_history.specs.EndState.{EndState}
 use Rattle.wl_history.specs.AirState.{AirState, end_of, octets_named, state_of}
 use Rattle.wl_history.specs.Legal.{judged_at, judged_answer, HeardIf, IsAnswer, Legal}
-use Rattle.wl_history.specs.Runs.{Asked, asked}
+use Rattle.wl_history.specs.Scripts.{Asked, asked}
 
 abbrev pub ReadOnce : Type 0
 ReadOnce = (octets : List ℕ) (a b : Result FrameValue Refusal) → ReadAs octets a → ReadAs octets b → a ≡ b

@@ -1,6 +1,7 @@
 -- What is sound is safe.
 use Rattle.std.proofs.Common.{◌≡◌, ℕ, ◌-◌, ◌<◌, Bool, true, false, List, [], ◌∷◌, length, Option, Some, None, Result, Ok, Err, refl, sym, ap, subst, ◌∙◌, arith, inl, inr}
-use Rattle.std.specs.Prelude.{◌==◌, ◌&&◌, nat_lt, not, if◌then◌else◌}
+use Rattle.std.proofs.lemmas.Slice.Eq.{bytes_eq-Decides}
+use Rattle.std.specs.Prelude.{◌==◌, ◌&&◌, nat_lt, not, if◌then◌else◌, bytes_eq}
 use Rattle.std.specs.List.{Contains, AllByRecursion}
 use Rattle.std.proofs.lemmas.Bool.{and_parts, eqb-true, ltb-true}
 use Rattle.wl_elem.specs.declared.fault.Refusal.{Refusal}
@@ -27,21 +28,22 @@ use Rattle.wl_history.specs.declared.command.Command.{Command}
 use Rattle.wl_history.specs.declared.command.Command.TheVariants as commands
 use Rattle.wl_history.specs.declared.outcome.Outcome.{Outcome}
 use Rattle.wl_history.specs.declared.outcome.Outcome.TheVariants as outcomes
+use Rattle.wl_history.specs.declared.setup.Setup.{Setup}
 use Rattle.wl_history.specs.declared.start.EndStart.{EndStart}
 use Rattle.wl_history.specs.declared.start.Start.{Start}
 use Rattle.wl_history.specs.declared.step.Step.{Step}
 use Rattle.wl_history.specs.Ends.{start_of, is_set_up, link_address}
 use Rattle.wl_history.specs.Hands.{hand_of}
-use Rattle.wl_history.specs.Words.{queued, body_at, booked, Airing, receiving}
+use Rattle.wl_history.specs.Words.{setup_of, queued, body_at, booked, Airing, receiving}
 use Rattle.wl_history.specs.Answers.{put_of}
 use Rattle.wl_history.specs.EndState.{EndState, lane_at, arrival_of, hear_arrived, hear_answer}
 use Rattle.wl_history.specs.AirState.{AirState, end_of, octets_named, state_of}
-use Rattle.wl_history.specs.Hearing.{Closed, Judged, Answered, ToOpen, with_key, judged_protected, judged_kind, judged, is_of, sealed_under, opened_under, text_of, same_octets, is_own_way}
+use Rattle.wl_history.specs.Hearing.{Closed, Judged, Answered, ToOpen, with_key, judged_protected, judged_kind, judged, is_of, sealed_under, opened_under, text_of, is_own_way}
 use Rattle.wl_history.specs.Plain.{IsPlain}
 use Rattle.wl_history.specs.Legal.{IsAnswer, Legal, HeardIf, judged_at, judged_answer, opened_answer, booking_found}
 use Rattle.wl_history.specs.Safe.{InOrder, OrderKept, IsSame, NumbersKept, PutAllowed, StepAllowed, LinksKept, HeardOpened, StepOpened, KeysKept, Safe}
-use Rattle.wl_history.proofs.Sender.{NumberLaws, WindowLaws}
-use Rattle.wl_history.proofs.Growing.{AiredWell, position_queued, contains_within}
+use Rattle.wl_history.specs.Below.{NumberLaws, WindowLaws}
+use Rattle.wl_history.proofs.Growing.{AiredWell, contains_within}
 use Rattle.wl_history.proofs.Receiving.{every, Rising, Trans}
 use Rattle.wl_history.proofs.Cases.{put_cases, plain_answer, found_is_of, found_there}
 use Rattle.wl_history.proofs.Sound.{Sound, all_sound}
@@ -113,7 +115,7 @@ module _ (laws : OrderLaws) (text : Sealing) (start : Start) (air : AirState) (s
       let s = end_of air e in
       let there : Contains (list_of s.booked lane) n = subst (λ (bs : List (List Numbers)). Contains (list_of bs lane) n) (sym (sound.told e).booked_are) is in
       let lt : lane_index lane < lane_count = omega (arith, contains_within s.booked (lane_index lane) n there, (sound.ends e).sender.nine) in
-      let pos = position_queued (λ l. (lane_at s l).queue) s.hands s.numbers s.booked (λ l. (lane_at s l).sending) (sound.ends e).sender (lane_index lane) n there in
+      let pos = (sound.ends e).sender.queued (lane_index lane) n there in
       omega (arith, pos, ap (λ (q : List (List ℕ)). length q) ((sound.told e).lanes (lane_index lane) lt).queue_is)
 
   numbers_kept : NumbersKept text start e steps
@@ -126,21 +128,23 @@ module _ (laws : OrderLaws) (text : Sealing) (start : Start) (air : AirState) (s
 
 -- ---- links
 
-put_allowed : (start : EndStart) (s : EndState) (link : ℕ) (h : Hand) → s.start ≡ start → PutAllowed start link (put_of link h s)
-put_allowed start s link hand.Empty same = tt
-put_allowed start s link (hand.Reserve lane) same = tt
-put_allowed start s link (hand.Booking lane n) same = put_cases (PutAllowed start link) lane n _ _ _ tt tt (λ up. sym (ap (λ (x : EndStart). is_set_up x link) same) ∙ up)
+put_allowed : (s : EndState) (link : ℕ) (h : Hand) → PutAllowed s.setup link (put_of link h s)
+put_allowed s link hand.Empty = tt
+put_allowed s link (hand.Reserve lane) = tt
+put_allowed s link (hand.Booking lane n) = put_cases (PutAllowed s.setup link) lane n _ _ _ tt tt (λ up. up)
 
-step_allowed : (text : Sealing) (start : Start) (air : AirState) → ((e : EndId) → (end_of air e).start ≡ start_of start e) → (thread : ℕ) (command : Command) (outcome : Outcome) → IsAnswer text thread command air outcome → StepAllowed start command outcome
-step_allowed text start air starts thread (commands.Put end link) outcome is =
-    subst (PutAllowed (start_of start end) link) (sym is) (put_allowed (start_of start end) (end_of air end) link (hand_of (end_of air end).hands thread) (starts end))
-step_allowed text start air starts thread other outcome is = tt
+step_allowed : (text : Sealing) (start : Start) (air : AirState) (before : List Step) → ((e : EndId) → (end_of air e).setup ≡ setup_of (start_of start e) e before) → (thread : ℕ) (command : Command) (outcome : Outcome)
+    → IsAnswer text thread command air outcome → StepAllowed start before command outcome
+step_allowed text start air before setups thread (commands.Put end link) outcome is =
+    let held = hand_of (end_of air end).hands thread in
+    subst (PutAllowed (setup_of (start_of start end) end before) link) (sym is) (subst (λ (setup : Setup). PutAllowed setup link (put_of link held (end_of air end))) (setups end) (put_allowed (end_of air end) link held))
+step_allowed text start air before setups thread other outcome is = tt
 
 links_kept : NumberLaws → WindowLaws → Trans → (text : Sealing) (start : Start) (steps : List Step) → Legal text start steps → LinksKept start steps
 links_kept numbers windows trans text start [] legal = tt
 links_kept numbers windows trans text start (step ∷ before) legal = (
   links_kept numbers windows trans text start before legal.0,
-  step_allowed text start (state_of text start before) (λ e. ((all_sound numbers windows trans text start before legal.0).told e).start_is) step.thread step.command step.outcome legal.1.answer,
+  step_allowed text start (state_of text start before) before (λ e. ((all_sound numbers windows trans text start before legal.0).told e).setup_is) step.thread step.command step.outcome legal.1.answer,
 )
 
 -- ---- keys
@@ -182,27 +186,17 @@ key_after newest false false true d w x y z j h = tt
 key_after newest false false false true w x y z j h = tt
 key_after newest false false false false w x y z j h = h
 
-key_judged : (start : EndStart) (e : EndId) (newest link : ℕ) (reading : Result FrameValue Refusal) → KeyHeld newest (judged start e newest link reading)
-key_judged start e newest link (Err refusal) = tt
-key_judged start e newest link (Ok f) =
-    key_after newest (is_protected f.header.kind && not (is_set_up start link)) (not (same_octets f.header.a1 (link_address start link e))) (not (same_octets f.header.a2 (link_address start link (peer_of e)))) (is_own_way e f.header.kind)
-    outcomes.LinkDown (outcomes.BadFrame WrongAddress 4) (outcomes.BadFrame WrongAddress 10) (outcomes.BadFrame WrongAddress 1) (judged_kind newest f f.header.kind) (key_kind newest f f.header.kind)
+key_judged : (start : EndStart) (setup : Setup) (e : EndId) (link : ℕ) (reading : Result FrameValue Refusal) → KeyHeld setup.keys (judged start setup e link reading)
+key_judged start setup e link (Err refusal) = tt
+key_judged start setup e link (Ok f) =
+    key_after setup.keys (is_protected f.header.kind && not (is_set_up setup link)) (not (bytes_eq f.header.a1 (link_address start link e))) (not (bytes_eq f.header.a2 (link_address start link (peer_of e)))) (is_own_way e f.header.kind)
+    outcomes.LinkDown (outcomes.BadFrame WrongAddress 4) (outcomes.BadFrame WrongAddress 10) (outcomes.BadFrame WrongAddress 1) (judged_kind setup.keys f f.header.kind) (key_kind setup.keys f f.header.kind)
 
 same_key : (text : Sealing) (start : EndStart) (e : EndId) (c : Closed) (bodies : List (List ℕ)) (n : Numbers) → is_of text start e c bodies n ≡ true → n.key ≡ c.key
 same_key text start e c bodies n is = eqb-true n.key c.key (and_parts (n.key == c.key) _ is).0
 
-same_first : (b : Bool) (x y : ℕ) (xs ys : List ℕ) → (x == y) ≡ b → (same_octets xs ys ≡ true → xs ≡ ys) → (if b then same_octets xs ys else false) ≡ true → x ∷ xs ≡ y ∷ ys
-same_first true x y xs ys e more h = let heads : x ≡ y = eqb-true x y e in let tails : xs ≡ ys = more h in cc
-same_first false x y xs ys e more h = absurd (cc h)
-
-same_text : (a b : List ℕ) → same_octets a b ≡ true → a ≡ b
-same_text [] [] e = refl
-same_text [] (y ∷ ys) e = absurd (cc e)
-same_text (x ∷ xs) [] e = absurd (cc e)
-same_text (x ∷ xs) (y ∷ ys) e = same_first (x == y) x y xs ys refl (same_text xs ys) e
-
 text_is : (text : Sealing) (start : EndStart) (e : EndId) (c : Closed) (bodies : List (List ℕ)) (n : Numbers) → is_of text start e c bodies n ≡ true → text_of text (opened_under start e c (body_at bodies n.pos)) ≡ c.payload
-text_is text start e c bodies n is = same_text _ _ (and_parts (n.pn == c.pn) _ (and_parts (n.key == c.key) _ is).1).1
+text_is text start e c bodies n is = (bytes_eq-Decides _ _).0 (and_parts (n.pn == c.pn) _ (and_parts (n.key == c.key) _ is).1).1
 
 module _ (text : Sealing) (s sender : EndState) (link : ℕ) where
   quiet : (octets : Option (List ℕ)) (outcome : Outcome) → IsPlain outcome → HeardOpened text s sender link octets outcome
@@ -231,13 +225,13 @@ module _ (text : Sealing) (s sender : EndState) (link : ℕ) where
           closed = c;
           to_open = is;
           lane_same = refl;
-          key_held = (let key = subst (KeyHeld s.newest) is (key_judged s.start s.start.end s.newest link reading) in subst (λ (k : ℕ). Holds s.newest k) (sym (same_key text s.start s.start.end c queue n own)) key);
+          key_held = (let key = subst (KeyHeld s.setup.keys) is (key_judged s.start s.setup s.start.end link reading) in subst (λ (k : ℕ). Holds s.setup.keys k) (sym (same_key text s.start s.start.end c queue n own)) key);
           of_sender = found_there text s.start s.start.end c queue (list_of sender.booked c.lane) n found;
           opens = text_is text s.start s.start.end c queue n own;
         })
 
     opened_judged : (j : Judged) → judged_at s link reading ≡ j → HeardOpened text s sender link (Some octets) (judged_answer text s sender j)
-    opened_judged (Answered outcome) is = quiet (Some octets) outcome (plain_answer s.start s.start.end s.newest link reading outcome is)
+    opened_judged (Answered outcome) is = quiet (Some octets) outcome (plain_answer s.start s.setup s.start.end link reading outcome is)
     opened_judged (ToOpen c) is = opened_found c is _ refl
 
   heard_opened : (octets : Option (List ℕ)) (outcome : Outcome) → HeardIf text s sender link octets outcome → HeardOpened text s sender link octets outcome

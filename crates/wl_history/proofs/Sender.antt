@@ -1,36 +1,17 @@
 -- What each command does to an end that sends.
-use Rattle.std.proofs.Common.{◌≡◌, ℕ, suc, ◌+◌, ◌<◌, ◌≤◌, true, false, List, length, Some, sym, ap, subst, ◌∙◌, arith, inl, inr}
-use Rattle.std.specs.Prelude.{◌==◌, ◌||◌}
-use Rattle.std.specs.List.{Contains}
+use Rattle.std.proofs.Common.{◌≡◌, ℕ, ◌+◌, ◌<◌, ◌≤◌, List, length, sym, ap, subst, ◌∙◌, arith, inl, inr}
 use Rattle.std.proofs.lemmas.Bool.{cases_eq}
 use Rattle.wl_elem.specs.declared.lane.Lane.{Lane}
 use Rattle.wl_elem.specs.declared.lane.Lane.TheVariants as lanes
 use Rattle.wl_elem.specs.Lanes.{lane_index, lane_count, at_place, IsLane}
 use Rattle.wl_number.specs.declared.numbers.Numbers.{Numbers}
-use Rattle.wl_number.specs.NumberObject.{NumberObject, drawn, after_draw, entered}
-use Rattle.wl_number.specs.OrderRule.{OrderRule, NoneBreaks, is_below, pair_below, list_at, list_of, with_booking}
-use Rattle.wl_window.specs.Originating.{Sending, Acked, Keeps, with_booked, acked, is_booked, booked_count}
+use Rattle.wl_number.specs.NumberObject.{NumberObject}
+use Rattle.wl_window.specs.Originating.{Sending, Keeps, is_booked, booked_count}
 use Rattle.wl_history.specs.declared.hand.Hand.{Hand}
 use Rattle.wl_history.specs.declared.hand.Hand.TheVariants as hand
 use Rattle.wl_history.specs.Hands.{hand_of, set_hand, reserves, bit}
 use Rattle.wl_history.specs.Sender.{IsHeld, IsSender, Regranted}
 use Rattle.wl_history.proofs.Hands.{hand_set, hand_kept, count_set}
-
--- what the crate of numbers says of them
-pub record NumberLaws : Type 0 where
-  pub entering : (lanes : List (List Numbers)) (lane : Lane) (n : Numbers) → lane_index lane < length lanes → OrderRule lanes → NoneBreaks lanes lane n → OrderRule (with_booking lanes lane n)
-  pub highest : (lanes : List (List Numbers)) (lane : Lane) (n : Numbers) → ((place : ℕ) (b : Numbers) → Contains (list_at lanes place) b → is_below b n ≡ true)
-      → ((b : Numbers) → Contains (list_of lanes lane) b → b.pos < n.pos) → NoneBreaks lanes lane n
-  pub draw_enters : (o : NumberObject) (lane : Lane) → entered o lane (drawn o lane) ≡ after_draw o lane
-  pub draw_above : (o : NumberObject) (lane : Lane) (b : Numbers) → pair_below o.key o.last b.key b.pn ≡ false → is_below b (drawn o lane) ≡ true
-  pub not_back : (a b : Numbers) → is_below a b ≡ true → is_below b a ≡ false
-  pub not_itself : (a : Numbers) → is_below a a ≡ false
-
--- what the crate of windows says of them
-pub record WindowLaws : Type 0 where
-  pub booking : (s : Sending) (pos q : ℕ) → is_booked s pos ≡ false → is_booked (with_booked s pos) q ≡ (pos == q || is_booked s q)
-  pub booking_counts : (s : Sending) (pos : ℕ) → is_booked s pos ≡ false → booked_count (with_booked s pos) ≡ suc (booked_count s)
-  pub acking : (s : Sending) (start : ℕ) (stored : List ℕ) (a : Acked) → acked s start stored ≡ Some a → Keeps s a.sending
 
 pub lane_within : (lane : Lane) → IsLane lane → lane_index lane < lane_count
 lane_within (lanes.Tid tid) h = omega arith
@@ -44,8 +25,8 @@ still_sender queue queue' hands o lanes sending sending' more same s = record {
   nine_positions = s.nine_positions;
   rule = s.rule;
   last = s.last;
-  position = s.position;
-  lower = s.lower;
+  above = s.above;
+  queued = λ l n is. omega (arith, s.queued l n is, more l);
   marked = λ l pos. (same l).marks pos ∙ s.marked l pos;
   numbered = λ l. (same l).counts ∙ s.numbered l;
   counted = λ l. (same l).granted ∙ s.counted l;
@@ -97,8 +78,8 @@ emptied thread queue hands o lanes sending sending' same back s = record {
   nine_positions = s.nine_positions;
   rule = s.rule;
   last = s.last;
-  position = s.position;
-  lower = s.lower;
+  above = s.above;
+  queued = s.queued;
   marked = λ l pos. regranted_marks (sending l) (sending' l) (same l) pos ∙ s.marked l pos;
   numbered = λ l. regranted_counts (sending l) (sending' l) (same l) ∙ s.numbered l;
   counted = λ l. omega (arith, back l, s.counted l, count_set l thread hand.Empty hands);
@@ -117,8 +98,8 @@ reserving thread lane queue hands o lanes sending sending' lt empty same more wi
   nine_positions = s.nine_positions;
   rule = s.rule;
   last = s.last;
-  position = s.position;
-  lower = s.lower;
+  above = s.above;
+  queued = s.queued;
   marked = λ l pos. regranted_marks (sending l) (sending' l) (same l) pos ∙ s.marked l pos;
   numbered = λ l. regranted_counts (sending l) (sending' l) (same l) ∙ s.numbered l;
   counted = λ l. omega (arith, more l, s.counted l, count_set l thread (hand.Reserve lane) hands, ap (λ (h : Hand). bit (reserves l h)) empty);

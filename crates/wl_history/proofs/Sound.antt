@@ -1,6 +1,6 @@
 -- What holds of both ends and of the words after each legal history, and that each step keeps it.
 use Rattle.std.proofs.Common.{◌≡◌, ℕ, zero, suc, ◌+◌, ◌<◌, ◌≤◌, Bool, true, false, eq-eqb, List, [], ◌∷◌, ◌++◌, length, get_or, Option, Some, None, Result, refl, sym, ap, subst, ◌∙◌, arith}
-use Rattle.std.specs.Prelude.{◌&&◌, ◌||◌, if◌then◌else◌}
+use Rattle.std.specs.Prelude.{◌==◌, ◌&&◌, ◌||◌, if◌then◌else◌}
 use Rattle.std.specs.List.{Contains, AllByRecursion}
 use Rattle.std.proofs.lemmas.Bool.{both_ways, le-ltb}
 use Rattle.wl_elem.specs.declared.fault.Refusal.{Refusal}
@@ -26,26 +26,28 @@ use Rattle.wl_history.specs.declared.command.Command.{Command}
 use Rattle.wl_history.specs.declared.command.Command.TheVariants as commands
 use Rattle.wl_history.specs.declared.outcome.Outcome.{Outcome}
 use Rattle.wl_history.specs.declared.outcome.Outcome.TheVariants as outcomes
+use Rattle.wl_history.specs.declared.setup.Setup.{Setup}
 use Rattle.wl_history.specs.declared.start.EndStart.{EndStart}
 use Rattle.wl_history.specs.declared.start.Start.{Start}
 use Rattle.wl_history.specs.declared.step.Step.{Step}
 use Rattle.wl_history.specs.Ends.{IsStart, start_of, receive_size, send_size}
 use Rattle.wl_history.specs.Hands.{hand_of}
-use Rattle.wl_history.specs.Words.{queued, body_at, booked, booked_with, send_key, key_booked, Airing, airings, airings_put, Receiving, receiving, received, taken}
+use Rattle.wl_history.specs.Words.{setup_of, queued, body_at, booked, booked_with, send_key, key_booked, Airing, airings, airings_put, Receiving, receiving, received, taken}
 use Rattle.wl_history.specs.Answers.{reserve_answer, book_answer, put_of, airing_of, aired_octets}
 use Rattle.wl_history.specs.Hearing.{octets_of, Closed, Judged, Answered, ToOpen}
-use Rattle.wl_history.specs.EndState.{EndState, LaneState, IsEnd, lane_at, no_lane, no_lanes, no_frames, started, was_aired_at, with_frame, let_up, with_moved, put_down, after_queue, after_reserve, after_book, after_put, after_arrived, after_hear, after_acked, after_taken, acked_by, arrival_of, after_heard, hear_arrived, hear_answer}
+use Rattle.wl_history.specs.EndState.{EndState, LaneState, IsEnd, lane_at, no_lane, no_lanes, no_management, no_frames, started, was_aired_at, with_frame, let_up, with_moved, put_down, after_queue, after_reserve, after_book, after_put, after_arrived, after_hear, after_acked, after_taken, acked_by, arrival_of, after_heard, hear_arrived, hear_answer}
 use Rattle.wl_history.specs.AirState.{AirState, end_of, with_end, with_acks, ack_named, octets_named, begun, after, state_of}
 use Rattle.wl_history.specs.Plain.{IsPlain}
 use Rattle.wl_history.specs.Legal.{Fits, IsAnswer, Legal, HeardIf, judged_at, judged_answer, opened_answer, booking_found}
-use Rattle.wl_history.specs.Runs.{step_of}
+use Rattle.wl_history.specs.Scripts.{step_of}
 use Rattle.wl_history.specs.Sender.{has_position}
 use Rattle.wl_history.specs.Stands.{LaneTells, Tells, EndStands}
 use Rattle.wl_history.proofs.Lanes.{same_list, no_member}
-use Rattle.wl_history.proofs.Sender.{NumberLaws, WindowLaws, lane_within}
+use Rattle.wl_history.specs.Below.{NumberLaws, WindowLaws}
+use Rattle.wl_history.proofs.Sender.{lane_within}
 use Rattle.wl_history.proofs.Keeping.{queue_kept, reserve_kept, given_back, booked_so, puts_down, aired_so, hear_kept, ack_kept}
 use Rattle.wl_history.proofs.Telling.{queue_tells, sending_tells, booked_tells, down_tells, framed_tells, moved_tells}
-use Rattle.wl_history.proofs.Growing.{IsBooking, position_queued, contains_within, booking_queued, booking_booked, Aired, aired_still, aired_more}
+use Rattle.wl_history.proofs.Growing.{IsBooking, contains_within, booking_queued, booking_booked, Aired, aired_still, aired_more}
 use Rattle.wl_history.proofs.Receiving.{Trans, Got, got_taken, got_still}
 use Rattle.wl_history.proofs.Cases.{reserve_cases, book_cases, put_cases, plain_answer, found_there}
 
@@ -67,17 +69,38 @@ pub record Sound (text : Sealing) (start : Start) (a : AirState) (steps : List S
 
 -- ---- the start
 
+-- what holds of all members of a list, and of what stands for those that it lacks
+all_hold : {A : Type 0} (P : A → Type 0) (xs : List A) (d : A) (l : ℕ) → AllByRecursion P xs → P d → P (get_or xs l d)
+all_hold P [] d l h own = own
+all_hold P (x ∷ xs) d zero h own = h.0
+all_hold P (x ∷ xs) d (suc l) h own = all_hold P xs d l h.1 own
+
 -- a list of one value alone
 all_same : {A : Type 0} (xs : List A) (d : A) (l : ℕ) → AllByRecursion (λ x. x ≡ d) xs → get_or xs l d ≡ d
-all_same [] d l h = refl
-all_same (x ∷ xs) d zero h = h.0
-all_same (x ∷ xs) d (suc l) h = all_same xs d l h.1
+all_same xs d l h = all_hold (λ x. x ≡ d) xs d l h refl
 
 nothing_at : (place : ℕ) → list_at no_bookings place ≡ []
 nothing_at place = all_same no_bookings [] place (refl, (refl, (refl, (refl, (refl, (refl, (refl, (refl, (refl, tt)))))))))
 
-no_lane_at : (l : ℕ) → get_or no_lanes l no_lane ≡ no_lane
-no_lane_at l = all_same no_lanes no_lane l (refl, (refl, (refl, (refl, (refl, (refl, (refl, (refl, (refl, tt)))))))))
+-- what holds of a lane of data and of management, on which nothing was done yet
+lane_begun : (P : LaneState → Type 0) → P no_lane → P no_management → (l : ℕ) → P (get_or no_lanes l no_lane)
+lane_begun P p q l = all_hold P no_lanes no_lane l (p, (p, (p, (p, (p, (p, (p, (p, (q, tt))))))))) p
+
+room_begun : (window l : ℕ) → window ≤ 256 → (if l == 8 then 1 else window) ≤ (get_or no_lanes l no_lane).room
+room_begun window zero h = h
+room_begun window (suc zero) h = h
+room_begun window (suc (suc zero)) h = h
+room_begun window (suc (suc (suc zero))) h = h
+room_begun window (suc (suc (suc (suc zero)))) h = h
+room_begun window (suc (suc (suc (suc (suc zero))))) h = h
+room_begun window (suc (suc (suc (suc (suc (suc zero)))))) h = h
+room_begun window (suc (suc (suc (suc (suc (suc (suc zero))))))) h = h
+room_begun window (suc (suc (suc (suc (suc (suc (suc (suc zero)))))))) h = omega arith
+room_begun window (suc (suc (suc (suc (suc (suc (suc (suc (suc l))))))))) h = at_most (suc (suc (suc (suc (suc (suc (suc (suc (suc l)))))))) == 8)
+  where
+    at_most : (b : Bool) → (if b then 1 else window) ≤ 256
+    at_most true = omega arith
+    at_most false = h
 
 none_there : (place : ℕ) (n : Numbers) → Contains (list_at no_bookings place) n → ⊥
 none_there place n is = no_member n (subst (λ (l : List Numbers). Contains l n) (nothing_at place) is)
@@ -88,12 +111,12 @@ none_marked pos = ap (λ (b : Bool). b || false) (le-ltb pos 0 (omega arith))
 no_position : (key pn l : ℕ) → get_or (opened key pn).positions l 0 ≡ 0
 no_position key pn l = all_same (opened key pn).positions 0 l (refl, (refl, (refl, (refl, (refl, (refl, (refl, (refl, (refl, tt)))))))))
 
-pub started_end : (start : EndStart) → IsEnd (started start)
-started_end start = record {
+pub started_end : (start : EndStart) → 1 ≤ start.window → start.window ≤ 256 → IsEnd (started start)
+started_end start some most = record {
   nine = refl;
   nine_pairs = refl;
   fifteen = refl;
-  short = λ l pos. subst (λ (x : LaneState). length (body_at x.queue pos) ≤ 2304) (sym (no_lane_at l)) (omega arith);
+  short = λ l pos. lane_begun (λ x. length (body_at x.queue pos) ≤ 2304) (omega arith) (omega arith) l;
   sender = record {
     nine = refl;
     nine_positions = refl;
@@ -102,31 +125,34 @@ started_end start = record {
       apart = λ place other a b ne is. absurd (none_there place a is);
     };
     last = λ place n is. absurd (none_there place n is);
-    position = λ l. no_position start.first_key start.first_pn l ∙ ap (λ (ns : List Numbers). length ns) (sym (nothing_at l));
-    lower = λ l n is. absurd (none_there l n is);
-    marked = λ l pos. ap (λ (x : LaneState). is_booked x.sending pos) (no_lane_at l) ∙ none_marked pos ∙ ap (has_position pos) (sym (nothing_at l));
-    numbered = λ l. ap (λ (x : LaneState). booked_count x.sending) (no_lane_at l) ∙ ap (λ (ns : List Numbers). length ns) (sym (nothing_at l));
-    counted = λ l. ap (λ (x : LaneState). x.sending.granted) (no_lane_at l) ∙ ap (λ (ns : List Numbers). 0 + length ns) (sym (nothing_at l));
-    within = λ l. subst (λ (x : LaneState). x.sending.granted ≤ length x.queue) (sym (no_lane_at l)) (omega arith);
+    above = λ l n is. absurd (none_there l n is);
+    queued = λ l n is. absurd (none_there l n is);
+    marked = λ l pos. lane_begun (λ x. is_booked x.sending pos ≡ false) (none_marked pos) (none_marked pos) l ∙ ap (has_position pos) (sym (nothing_at l));
+    numbered = λ l. lane_begun (λ x. booked_count x.sending ≡ 0) refl refl l ∙ ap (λ (ns : List Numbers). length ns) (sym (nothing_at l));
+    counted = λ l. lane_begun (λ x. x.sending.granted ≡ 0) refl refl l ∙ ap (λ (ns : List Numbers). 0 + length ns) (sym (nothing_at l));
+    within = λ l. lane_begun (λ x. x.sending.granted ≤ length x.queue) (omega arith) (omega arith) l;
     held = λ thread lane n is. absurd (cc is);
     of_lanes = λ thread lane is. absurd (cc is);
   };
+  gapless = record { next = λ l. no_position start.first_key start.first_pn l ∙ ap (λ (ns : List Numbers). length ns) (sym (nothing_at l)) };
+  sized = record { some_window = some; window_limit = most };
+  roomy = λ l. room_begun start.window l most;
 }
 
 started_told : (text : Sealing) (start : Start) (e : EndId) → EndStands text start e (started (start_of start e)) []
 started_told text start e = record {
   start_is = refl;
-  newest_is = refl;
+  setup_is = refl;
   key_is = refl;
-  lanes = λ l lt. subst (λ (lane : LaneState). LaneTells l lane [] (receiving (start_of start e) e l []) []) (sym (no_lane_at l)) (record { queue_is = refl; window = refl; released = refl; flags = λ pos. refl });
+  lanes = λ l lt. lane_begun (λ lane. LaneTells l lane [] (receiving (start_of start e) e l []) []) (record { queue_is = refl; window = refl; released = refl; flags = λ pos. refl }) (record { queue_is = refl; window = refl; released = refl; flags = λ pos. refl }) l;
   booked_are = refl;
   last = λ l lt. all_same no_pairs None l (refl, (refl, (refl, (refl, (refl, (refl, (refl, (refl, (refl, tt)))))))));
   frames = λ link lt. all_same no_frames [] link (refl, (refl, (refl, (refl, (refl, (refl, (refl, (refl, (refl, (refl, (refl, (refl, (refl, (refl, (refl, tt)))))))))))))));
 }
 
-pub sound_start : (text : Sealing) (start : Start) → Sound text start (begun start) []
-sound_start text start = record {
-  ends = λ e. elim e as (λ (x : EndId). IsEnd (end_of (begun start) x)) [ Ap ↦ started_end start.ap | Sta ↦ started_end start.sta ];
+pub sound_start : (text : Sealing) (start : Start) → IsStart start → Sound text start (begun start) []
+sound_start text start is = record {
+  ends = λ e. elim e as (λ (x : EndId). IsEnd (end_of (begun start) x)) [ Ap ↦ started_end start.ap (is.some_window Ap) (is.window_limit Ap) | Sta ↦ started_end start.sta (is.some_window Sta) (is.window_limit Sta) ];
   told = λ e. elim e as (λ (x : EndId). EndStands text start x (end_of (begun start) x) []) [ Ap ↦ started_told text start Ap | Sta ↦ started_told text start Sta ];
   aired = λ e a is. absurd (no_member a is);
   got = λ e lane. record { stored = tt; released_good = tt; rising = tt };
@@ -146,9 +172,12 @@ module _ (laws : NumberLaws) (windows : WindowLaws) (trans : Trans) (text : Seal
   by_end P f same other Sta Ap = other Sta Ap
   by_end P f same other Sta Sta = same Sta
 
+  abbrev setup_at : EndId → Setup
+  setup_at e = setup_of (start_of start e) e before
+
   -- the words of the end, with others for some
   abbrev Told : EndId → EndState → (ℕ → List (List ℕ)) → List (List Numbers) → List Airing → (ℕ → Receiving) → ℕ → Type 0
-  Told e s queue bookings aired got key = Tells text (start_of start e) e s queue bookings aired got key
+  Told e s queue bookings aired got key = Tells text (start_of start e) e s queue bookings aired got key (setup_at e)
 
   abbrev queues : EndId → ℕ → List (List ℕ)
   queues e l = queued e l before
@@ -167,7 +196,7 @@ module _ (laws : NumberLaws) (windows : WindowLaws) (trans : Trans) (text : Seal
   word_queued e l n there =
       let s = end_of a e in
       let lt : l < lane_count = omega (arith, contains_within s.booked l n there, (sound.ends e).sender.nine) in
-      let pos = position_queued (λ m. (lane_at s m).queue) s.hands s.numbers s.booked (λ m. (lane_at s m).sending) (sound.ends e).sender l n there in
+      let pos = (sound.ends e).sender.queued l n there in
       omega (arith, pos, ap (λ (q : List (List ℕ)). length q) ((sound.told e).lanes l lt).queue_is)
 
   -- and its body is the one queued there
@@ -191,7 +220,7 @@ module _ (laws : NumberLaws) (windows : WindowLaws) (trans : Trans) (text : Seal
     sound_queue fits = record {
       ends = by_end (λ end e b s. IsEnd s) (λ x. after_queue tid body (end_of a x)) (λ x. queue_kept (end_of a x) tid body (sound.ends x) fits.2) (λ x y. sound.ends y) end;
       told = by_end (λ end e b s. Told e s (λ l. if b && at_place (lanes.Tid tid) l then queues e l ++ body ∷ [] else queues e l) (booked e before) (airings e before) (gots e) (key_of e)) (λ x. after_queue tid body (end_of a x))
-          (λ x. queue_tells text (start_of start x) x (end_of a x) (queues x) (booked x before) (airings x before) (gots x) (key_of x) (sound.ends x) (sound.told x) tid body) (λ x y. sound.told y) end;
+          (λ x. queue_tells text (start_of start x) x (end_of a x) (queues x) (booked x before) (airings x before) (gots x) (key_of x) (setup_at x) (sound.ends x) (sound.told x) tid body) (λ x y. sound.told y) end;
       aired = λ e. aired_still (queues e) (λ l. queued e l (queue_step ∷ before)) (booked e before) (booked e before) (airings e before) (queue_still e) (sound.aired e);
       got = λ e l. got_still (IsItem (peer_of e) l before) (λ item. IsBooking (λ m. queued (peer_of e) m (queue_step ∷ before)) (booked (peer_of e) before) l item.numbers item.body) (λ item b. queue_still (peer_of e) l item.numbers item.body b) (gots e l) (sound.got e l);
     }
@@ -200,7 +229,7 @@ module _ (laws : NumberLaws) (windows : WindowLaws) (trans : Trans) (text : Seal
 
   module _ (thread : ℕ) (end : EndId) (lane : Lane) (outcome : Outcome) (is_lane : IsLane lane) where
     abbrev reserve_told : EndId → Outcome
-    reserve_told x = reserve_answer (hand_of (end_of a x).hands thread) (length (lane_at (end_of a x) (lane_index lane)).queue) (lane_at (end_of a x) (lane_index lane)).sending (send_size (end_of a x).start (lane_index lane))
+    reserve_told x = reserve_answer (hand_of (end_of a x).hands thread) (length (lane_at (end_of a x) (lane_index lane)).queue) (lane_at (end_of a x) (lane_index lane)).sending (send_size (end_of a x).setup (lane_index lane))
 
     abbrev Reserves : EndId → Type 0
     Reserves x = outcome ≡ reserve_told x
@@ -208,14 +237,14 @@ module _ (laws : NumberLaws) (windows : WindowLaws) (trans : Trans) (text : Seal
     reserve_ends : (x : EndId) → IsEnd (after_reserve thread lane (reserve_told x) (end_of a x))
     reserve_ends x =
         let s = end_of a x in
-        reserve_cases (λ o. IsEnd (after_reserve thread lane o s)) (hand_of s.hands thread) (length (lane_at s (lane_index lane)).queue) (lane_at s (lane_index lane)).sending (send_size s.start (lane_index lane)) (sound.ends x) (sound.ends x) (sound.ends x)
+        reserve_cases (λ o. IsEnd (after_reserve thread lane o s)) (hand_of s.hands thread) (length (lane_at s (lane_index lane)).queue) (lane_at s (lane_index lane)).sending (send_size s.setup (lane_index lane)) (sound.ends x) (sound.ends x) (sound.ends x)
         (λ empty more. reserve_kept s thread lane (sound.ends x) is_lane empty (λ e. both_ways _ more (eq-eqb (lane_at s (lane_index lane)).sending.granted (length (lane_at s (lane_index lane)).queue) e)))
 
     reserve_tells : (x : EndId) → Still x (after_reserve thread lane (reserve_told x) (end_of a x))
     reserve_tells x =
         let s = end_of a x in
-        reserve_cases (λ o. Still x (after_reserve thread lane o s)) (hand_of s.hands thread) (length (lane_at s (lane_index lane)).queue) (lane_at s (lane_index lane)).sending (send_size s.start (lane_index lane)) (sound.told x) (sound.told x) (sound.told x)
-        (λ empty more. sending_tells text (start_of start x) x s (queues x) (booked x before) (airings x before) (gots x) (key_of x) (sound.ends x) (sound.told x) (lane_index lane) _ _)
+        reserve_cases (λ o. Still x (after_reserve thread lane o s)) (hand_of s.hands thread) (length (lane_at s (lane_index lane)).queue) (lane_at s (lane_index lane)).sending (send_size s.setup (lane_index lane)) (sound.told x) (sound.told x) (sound.told x)
+        (λ empty more. sending_tells text (start_of start x) x s (queues x) (booked x before) (airings x before) (gots x) (key_of x) (setup_at x) (sound.ends x) (sound.told x) (lane_index lane) _ _)
 
     sound_reserve : IsAnswer text thread (commands.Reserve end lane) a outcome → Sound text start (after text thread (commands.Reserve end lane) outcome a) (step_of thread (commands.Reserve end lane) outcome ∷ before)
     sound_reserve is = record {
@@ -246,8 +275,8 @@ module _ (laws : NumberLaws) (windows : WindowLaws) (trans : Trans) (text : Seal
     book_tells x =
         let s = end_of a x in
         book_cases (λ o. Told x (after_book thread o s) (queues x) (booked_with o (booked x before)) (airings x before) (gots x) (key_booked o (key_of x))) (hand_of s.hands thread) s.numbers (sound.told x)
-        (λ lane held. sending_tells text (start_of start x) x s (queues x) (booked x before) (airings x before) (gots x) (key_of x) (sound.ends x) (sound.told x) (lane_index lane) _ _)
-        (λ lane held. booked_tells text (start_of start x) x s (queues x) (booked x before) (airings x before) (gots x) (key_of x) (sound.ends x) (sound.told x) thread lane)
+        (λ lane held. sending_tells text (start_of start x) x s (queues x) (booked x before) (airings x before) (gots x) (key_of x) (setup_at x) (sound.ends x) (sound.told x) (lane_index lane) _ _)
+        (λ lane held. booked_tells text (start_of start x) x s (queues x) (booked x before) (airings x before) (gots x) (key_of x) (setup_at x) (sound.ends x) (sound.told x) thread lane)
 
     abbrev Grows : EndId → List (List Numbers) → Type 0
     Grows e bookings = (l : ℕ) (n : Numbers) (body : List ℕ) → IsBooking (queues e) (booked e before) l n body → IsBooking (queues e) bookings l n body
@@ -293,7 +322,7 @@ module _ (laws : NumberLaws) (windows : WindowLaws) (trans : Trans) (text : Seal
     down x (hand.Booking lane n) is = puts_down (end_of a x) thread lane n (sound.ends x) is
 
     down_told : (x : EndId) → Still x (put_down thread (hand_of (end_of a x).hands thread) (end_of a x))
-    down_told x = down_tells text (start_of start x) x (end_of a x) (queues x) (booked x before) (airings x before) (gots x) (key_of x) (sound.told x) thread (hand_of (end_of a x).hands thread)
+    down_told x = down_tells text (start_of start x) x (end_of a x) (queues x) (booked x before) (airings x before) (gots x) (key_of x) (setup_at x) (sound.told x) thread (hand_of (end_of a x).hands thread)
 
     sent : (x : EndId) (lane : Lane) (n : Numbers) → hand_of (end_of a x).hands thread ≡ hand.Booking lane n → Put x (hand.Booking lane n) (outcomes.Put lane n (was_aired_at (lane_at (end_of a x) (lane_index lane)).aired n.pos))
     sent x lane n held =
@@ -309,8 +338,8 @@ module _ (laws : NumberLaws) (windows : WindowLaws) (trans : Trans) (text : Seal
         ∙ ap (λ (q : List (List ℕ)). octets_of text (start_of start x) x (record { link = link; lane = lane; numbers = n; retry = was_aired_at (lane_at s k).aired n.pos; body = body_at q n.pos })) ((sound.told x).lanes k lt).queue_is in
         record {
           stays = subst (λ (h : Hand). IsEnd (put_down thread h (with_frame link octets lane n s))) (sym held) (aired_so s thread lane n link octets (sound.ends x) held);
-          told = down_tells text (start_of start x) x (with_frame link octets lane n s) (queues x) (booked x before) (airings x before ++ new ∷ []) (gots x) (key_of x)
-              (framed_tells text (start_of start x) x s (queues x) (booked x before) (airings x before) (gots x) (key_of x) (sound.ends x) (sound.told x) new octets octets_are) thread (hand_of s.hands thread);
+          told = down_tells text (start_of start x) x (with_frame link octets lane n s) (queues x) (booked x before) (airings x before ++ new ∷ []) (gots x) (key_of x) (setup_at x)
+              (framed_tells text (start_of start x) x s (queues x) (booked x before) (airings x before) (gots x) (key_of x) (setup_at x) (sound.ends x) (sound.told x) new octets octets_are) thread (hand_of s.hands thread);
           aired = aired_more (queues x) (booked x before) (airings x before) new (record { booking = booking_is x k n there.0; of_lane = there.1 }) (sound.aired x);
         }
 
@@ -354,12 +383,12 @@ module _ (laws : NumberLaws) (windows : WindowLaws) (trans : Trans) (text : Seal
     sender = end_of a (peer_of x)
 
     abbrev size : ℕ
-    size = receive_size s.start (lane_index lane)
+    size = receive_size s.setup (lane_index lane)
 
     got_at : (l : ℕ) (b : Bool) → at_place lane l ≡ b
-        → Got (IsItem (peer_of x) l before) (if b then taken (arrived (gots x l).window number (receive_size (start_of start x) l) (record { numbers = n; body = body_at (queued (peer_of x) l before) n.pos })) (gots x l) else gots x l)
+        → Got (IsItem (peer_of x) l before) (if b then taken (arrived (gots x l).window number (receive_size (setup_at x) l) (record { numbers = n; body = body_at (queued (peer_of x) l before) n.pos })) (gots x l) else gots x l)
     got_at l true at =
-        got_taken (IsItem (peer_of x) l before) trans (gots x l) number (receive_size (start_of start x) l) (record { numbers = n; body = body_at (queued (peer_of x) l before) n.pos })
+        got_taken (IsItem (peer_of x) l before) trans (gots x l) number (receive_size (setup_at x) l) (record { numbers = n; body = body_at (queued (peer_of x) l before) n.pos })
         (booking_is (peer_of x) l n (subst (λ (ns : List Numbers). Contains ns n) (same_list sender.booked lane l at) there)) (sound.got x l)
     got_at l false at = sound.got x l
 
@@ -376,7 +405,7 @@ module _ (laws : NumberLaws) (windows : WindowLaws) (trans : Trans) (text : Seal
         record {
           stays = hear_kept s lane number size (arrival_of sender lane n) (sound.ends x);
           told = subst (λ (t : EndState). Told x t (queues x) (booked x before) (airings x before) (λ l. received (start_of start x) x l before (outcomes.Stored lane number n (let_up (last_of s.last lane) moved.up).positions) (gots x l)) (key_of x)) (sym leaves)
-              (moved_tells text (start_of start x) x s (queues x) (booked x before) (airings x before) (gots x) (key_of x) (sound.ends x) (sound.told x) lane number (arrival_of sender lane n) moved is (queues (peer_of x)) body);
+              (moved_tells text (start_of start x) x s (queues x) (booked x before) (airings x before) (gots x) (key_of x) (setup_at x) (sound.ends x) (sound.told x) lane number (arrival_of sender lane n) moved is (queues (peer_of x)) body);
           got = λ l. got_at l (at_place lane l) refl;
         }
 
@@ -388,7 +417,7 @@ module _ (laws : NumberLaws) (windows : WindowLaws) (trans : Trans) (text : Seal
   opened_heard x c (Some n) there = heard_booked x c.lane c.number n (there n refl)
 
   judged_heard : (x : EndId) (link : ℕ) (reading : Result FrameValue Refusal) (j : Judged) → judged_at (end_of a x) link reading ≡ j → Heard x (judged_answer text (end_of a x) (end_of a (peer_of x)) j)
-  judged_heard x link reading (Answered outcome) is = quiet x outcome (plain_answer (end_of a x).start (end_of a x).start.end (end_of a x).newest link reading outcome is)
+  judged_heard x link reading (Answered outcome) is = quiet x outcome (plain_answer (end_of a x).start (end_of a x).setup (end_of a x).start.end link reading outcome is)
   judged_heard x link reading (ToOpen c) is =
       opened_heard x c (booking_found text (end_of a x) (end_of a (peer_of x)) c)
       (found_there text (end_of a x).start (end_of a x).start.end c (lane_at (end_of a (peer_of x)) (lane_index c.lane)).queue (list_of (end_of a (peer_of x)).booked c.lane))
@@ -440,7 +469,7 @@ module _ (laws : NumberLaws) (windows : WindowLaws) (trans : Trans) (text : Seal
 
     acked_told : (x : EndId) (ack : Ack) (o : Option Acked) → Still x (after_acked ack o (end_of a x))
     acked_told x ack None = sound.told x
-    acked_told x ack (Some acked) = sending_tells text (start_of start x) x (end_of a x) (queues x) (booked x before) (airings x before) (gots x) (key_of x) (sound.ends x) (sound.told x) (lane_index ack.lane) acked.sending (end_of a x).hands
+    acked_told x ack (Some acked) = sending_tells text (start_of start x) x (end_of a x) (queues x) (booked x before) (airings x before) (gots x) (key_of x) (setup_at x) (sound.ends x) (sound.told x) (lane_index ack.lane) acked.sending (end_of a x).hands
 
     taken_tells : (x : EndId) (named : Option Ack) → Still x (after_taken named (end_of a x))
     taken_tells x None = sound.told x
@@ -470,6 +499,6 @@ legal_start text start (step ∷ before) legal = legal_start text start before l
 -- each legal history is sound
 pub all_sound : NumberLaws → WindowLaws → Trans → (text : Sealing) (start : Start) (steps : List Step) → Legal text start steps → Sound text start (state_of text start steps) steps
 unfolding state_of
-all_sound laws windows trans text start [] legal = sound_start text start
+all_sound laws windows trans text start [] legal = sound_start text start legal
 all_sound laws windows trans text start (step ∷ before) legal =
     sound_then laws windows trans text start (legal_start text start before legal.0) (state_of text start before) before (all_sound laws windows trans text start before legal.0) step.thread step.command step.outcome legal.1.fits legal.1.answer

@@ -19,6 +19,7 @@ use Rattle.wl_history.specs.declared.arrival.Arrival.{Arrival}
 use Rattle.wl_history.specs.declared.hand.Hand.{Hand}
 use Rattle.wl_history.specs.declared.hand.Hand.TheVariants as hand
 use Rattle.wl_history.specs.declared.outcome.Outcome.TheVariants as outcomes
+use Rattle.wl_history.specs.declared.setup.Setup.{Setup}
 use Rattle.wl_history.specs.declared.start.EndStart.{EndStart}
 use Rattle.wl_history.specs.Ends.{receive_size}
 use Rattle.wl_history.specs.Words.{body_at, Airing, airings_on, was_aired, Receiving, last_pair, is_new, release, release_all, taken}
@@ -113,22 +114,22 @@ up_alike (a ∷ up) released = up_by (is_new a.numbers released) a up released r
 -- ---- each call
 
 -- the hands tell nothing of it
-pub down_tells : (text : Sealing) (start : EndStart) (e : EndId) (s : EndState) (queue : ℕ → List (List ℕ)) (bookings : List (List Numbers)) (aired : List Airing) (got : ℕ → Receiving) (key : ℕ)
-    → Tells text start e s queue bookings aired got key → (thread : ℕ) (held : Hand) → Tells text start e (put_down thread held s) queue bookings aired got key
-down_tells text start e s queue bookings aired got key h thread hand.Empty = h
-down_tells text start e s queue bookings aired got key h thread (hand.Reserve lane) = h
-down_tells text start e s queue bookings aired got key h thread (hand.Booking lane n) =
-    record { start_is = h.start_is; newest_is = h.newest_is; key_is = h.key_is; lanes = h.lanes; booked_are = h.booked_are; last = h.last; frames = h.frames }
+pub down_tells : (text : Sealing) (start : EndStart) (e : EndId) (s : EndState) (queue : ℕ → List (List ℕ)) (bookings : List (List Numbers)) (aired : List Airing) (got : ℕ → Receiving) (key : ℕ) (setup : Setup)
+    → Tells text start e s queue bookings aired got key setup → (thread : ℕ) (held : Hand) → Tells text start e (put_down thread held s) queue bookings aired got key setup
+down_tells text start e s queue bookings aired got key setup h thread hand.Empty = h
+down_tells text start e s queue bookings aired got key setup h thread (hand.Reserve lane) = h
+down_tells text start e s queue bookings aired got key setup h thread (hand.Booking lane n) =
+    record { start_is = h.start_is; setup_is = h.setup_is; key_is = h.key_is; lanes = h.lanes; booked_are = h.booked_are; last = h.last; frames = h.frames }
 
-module _ (text : Sealing) (start : EndStart) (e : EndId) (s : EndState) (queue : ℕ → List (List ℕ)) (bookings : List (List Numbers)) (aired : List Airing) (got : ℕ → Receiving) (key : ℕ)
-    (is : IsEnd s) (h : Tells text start e s queue bookings aired got key) where
+module _ (text : Sealing) (start : EndStart) (e : EndId) (s : EndState) (queue : ℕ → List (List ℕ)) (bookings : List (List Numbers)) (aired : List Airing) (got : ℕ → Receiving) (key : ℕ) (setup : Setup)
+    (is : IsEnd s) (h : Tells text start e s queue bookings aired got key setup) where
   within_lanes : (l : ℕ) → l < lane_count → l < length s.lanes
   within_lanes l lt = omega (arith, lt, is.nine)
 
-  pub queue_tells : (tid : ℕ) (body : List ℕ) → Tells text start e (after_queue tid body s) (λ l. if at_place (lanes.Tid tid) l then queue l ++ body ∷ [] else queue l) bookings aired got key
+  pub queue_tells : (tid : ℕ) (body : List ℕ) → Tells text start e (after_queue tid body s) (λ l. if at_place (lanes.Tid tid) l then queue l ++ body ∷ [] else queue l) bookings aired got key setup
   queue_tells tid body = record {
     start_is = h.start_is;
-    newest_is = h.newest_is;
+    setup_is = h.setup_is;
     key_is = h.key_is;
     lanes = λ l lt. set_place (λ x. LaneTells l x (if tid == l then queue l ++ body ∷ [] else queue l) (got l) aired) s.lanes tid l (record (lane_at s tid) { queue = (lane_at s tid).queue ++ body ∷ [] }) no_lane (inr (within_lanes l lt))
         (λ ne. let was = h.lanes l lt in record {
@@ -153,10 +154,10 @@ module _ (text : Sealing) (start : EndStart) (e : EndId) (s : EndState) (queue :
   lane_sending l k sending lt = any_place (λ x. LaneTells l x (queue l) (got l) aired) s.lanes k l (record (lane_at s k) { sending = sending }) no_lane (h.lanes l lt)
       (λ same. let was = subst (λ (j : ℕ). LaneTells l (lane_at s j) (queue l) (got l) aired) (sym same) (h.lanes l lt) in record { queue_is = was.queue_is; window = was.window; released = was.released; flags = was.flags })
 
-  pub sending_tells : (k : ℕ) (sending : Sending) (hands : List Hand) → Tells text start e (record (with_lane k (record (lane_at s k) { sending = sending }) s) { hands = hands }) queue bookings aired got key
+  pub sending_tells : (k : ℕ) (sending : Sending) (hands : List Hand) → Tells text start e (record (with_lane k (record (lane_at s k) { sending = sending }) s) { hands = hands }) queue bookings aired got key setup
   sending_tells k sending hands = record {
     start_is = h.start_is;
-    newest_is = h.newest_is;
+    setup_is = h.setup_is;
     key_is = h.key_is;
     lanes = λ l lt. lane_sending l k sending lt;
     booked_are = h.booked_are;
@@ -164,10 +165,10 @@ module _ (text : Sealing) (start : EndStart) (e : EndId) (s : EndState) (queue :
     frames = h.frames;
   }
 
-  pub booked_tells : (thread : ℕ) (lane : Lane) → Tells text start e (after_book thread (outcomes.Booked lane (drawn s.numbers lane)) s) queue (with_booking bookings lane (drawn s.numbers lane)) aired got (max key (drawn s.numbers lane).key)
+  pub booked_tells : (thread : ℕ) (lane : Lane) → Tells text start e (after_book thread (outcomes.Booked lane (drawn s.numbers lane)) s) queue (with_booking bookings lane (drawn s.numbers lane)) aired got (max key (drawn s.numbers lane).key) setup
   booked_tells thread lane = record {
     start_is = h.start_is;
-    newest_is = h.newest_is;
+    setup_is = h.setup_is;
     key_is = omega (arith, h.key_is);
     lanes = λ l lt. lane_sending l (lane_index lane) (with_booked (lane_at s (lane_index lane)).sending (drawn s.numbers lane).pos) lt;
     booked_are = ap (λ (b : List (List Numbers)). with_booking b lane (drawn s.numbers lane)) h.booked_are;
@@ -195,10 +196,10 @@ module _ (text : Sealing) (start : EndStart) (e : EndId) (s : EndState) (queue :
         by_link : (b : Bool) → (new.link == at) ≡ b → octets_all text start e (airings_on at aired ++ (if b then new ∷ [] else [])) ≡ octets_all text start e (airings_on at (aired ++ new ∷ []))
         by_link b is = ap (λ (c : Bool). octets_all text start e (airings_on at aired ++ (if c then new ∷ [] else []))) (sym is) ∙ ap (octets_all text start e) (sym (on_more at aired new))
 
-    pub framed_tells : Tells text start e (with_frame new.link octets new.lane new.numbers s) queue bookings (aired ++ new ∷ []) got key
+    pub framed_tells : Tells text start e (with_frame new.link octets new.lane new.numbers s) queue bookings (aired ++ new ∷ []) got key setup
     framed_tells = record {
       start_is = h.start_is;
-      newest_is = h.newest_is;
+      setup_is = h.setup_is;
       key_is = h.key_is;
       lanes = λ l lt. set_place (λ x. LaneTells l x (queue l) (got l) (aired ++ new ∷ [])) s.lanes (lane_index new.lane) l (record (lane_at s (lane_index new.lane)) { aired = aired_at new.numbers.pos (lane_at s (lane_index new.lane)).aired }) no_lane (inr (within_lanes l lt))
           (λ ne. let was = h.lanes l lt in record { queue_is = was.queue_is; window = was.window; released = was.released; flags = λ pos. flags_then false (lane_at s l).aired l pos (ne_eqb (lane_index new.lane) l ne) was.flags })
@@ -215,13 +216,13 @@ module _ (text : Sealing) (start : EndStart) (e : EndId) (s : EndState) (queue :
 
   -- ---- a body that is stored
 
-  module _ (lane : Lane) (number : ℕ) (a : Arrival) (moved : Moved Arrival) (come : arrived (lane_at s (lane_index lane)).window number (receive_size s.start (lane_index lane)) a ≡ Stored moved)
+  module _ (lane : Lane) (number : ℕ) (a : Arrival) (moved : Moved Arrival) (come : arrived (lane_at s (lane_index lane)).window number (receive_size s.setup (lane_index lane)) a ≡ Stored moved)
       (peers : ℕ → List (List ℕ)) (body : a.body ≡ body_at (peers (lane_index lane)) a.numbers.pos) where
     abbrev item : ℕ → Arrival
     item l = record { numbers = a.numbers; body = body_at (peers l) a.numbers.pos }
 
     abbrev pub got_then : ℕ → Receiving
-    got_then l = if at_place lane l then taken (arrived (got l).window number (receive_size start l) (item l)) (got l) else got l
+    got_then l = if at_place lane l then taken (arrived (got l).window number (receive_size setup l) (item l)) (got l) else got l
 
     abbrev then_at : ℕ → Receiving
     then_at l = record { window = moved.window; released = release_all moved.up (got l).released }
@@ -230,15 +231,15 @@ module _ (text : Sealing) (start : EndStart) (e : EndId) (s : EndState) (queue :
     own was =
         let k = lane_index lane in
         let same_item : item k ≡ a = ap (λ (b : List ℕ). let x : Arrival = record { numbers = a.numbers; body = b } in x) (sym body) in
-        let word_come : arrived (got k).window number (receive_size start k) (item k) ≡ Stored moved =
-        ap (λ (w : Window Arrival). arrived w number (receive_size start k) (item k)) (sym was.window)
-        ∙ ap (λ (x : EndStart). arrived (lane_at s k).window number (receive_size x k) (item k)) (sym h.start_is)
-        ∙ ap (λ (x : Arrival). arrived (lane_at s k).window number (receive_size s.start k) x) same_item ∙ come in
-        ap (λ (b : Bool). if b then taken (arrived (got k).window number (receive_size start k) (item k)) (got k) else got k) (at_own_place lane)
+        let word_come : arrived (got k).window number (receive_size setup k) (item k) ≡ Stored moved =
+        ap (λ (w : Window Arrival). arrived w number (receive_size setup k) (item k)) (sym was.window)
+        ∙ ap (λ (x : Setup). arrived (lane_at s k).window number (receive_size x k) (item k)) (sym h.setup_is)
+        ∙ ap (λ (x : Arrival). arrived (lane_at s k).window number (receive_size s.setup k) x) same_item ∙ come in
+        ap (λ (b : Bool). if b then taken (arrived (got k).window number (receive_size setup k) (item k)) (got k) else got k) (at_own_place lane)
         ∙ ap (λ (c : Arrived Arrival). taken c (got k)) word_come
 
     other : (l : ℕ) → lane_index lane ≢ l → got l ≡ got_then l
-    other l ne = sym (ap (λ (b : Bool). if b then taken (arrived (got l).window number (receive_size start l) (item l)) (got l) else got l) (ne_eqb (lane_index lane) l ne))
+    other l ne = sym (ap (λ (b : Bool). if b then taken (arrived (got l).window number (receive_size setup l) (item l)) (got l) else got l) (ne_eqb (lane_index lane) l ne))
 
     own_lane : lane_index lane < lane_count → LaneTells (lane_index lane) (record (lane_at s (lane_index lane)) { window = moved.window; released = (lane_at s (lane_index lane)).released ++ (let_up (last_of s.last lane) moved.up).positions }) (queue (lane_index lane)) (got_then (lane_index lane)) aired
     own_lane lt =
@@ -258,10 +259,10 @@ module _ (text : Sealing) (start : EndStart) (e : EndId) (s : EndState) (queue :
         let k = lane_index lane in
         ap (λ (last : Option Pair). (let_up last moved.up).last) (h.last k lt) ∙ (up_alike moved.up (got k).released).last ∙ sym (ap (λ (r : Receiving). last_pair r.released) (own (h.lanes k lt)))
 
-    pub moved_tells : Tells text start e (with_moved lane moved s) queue bookings aired got_then key
+    pub moved_tells : Tells text start e (with_moved lane moved s) queue bookings aired got_then key setup
     moved_tells = record {
       start_is = h.start_is;
-      newest_is = h.newest_is;
+      setup_is = h.setup_is;
       key_is = h.key_is;
       lanes = λ l lt. set_place (λ x. LaneTells l x (queue l) (got_then l) aired) s.lanes (lane_index lane) l (record (lane_at s (lane_index lane)) { window = moved.window; released = (lane_at s (lane_index lane)).released ++ (let_up (last_of s.last lane) moved.up).positions }) no_lane (inr (within_lanes l lt))
           (λ ne. subst (λ (r : Receiving). LaneTells l (lane_at s l) (queue l) r aired) (other l ne) (h.lanes l lt))

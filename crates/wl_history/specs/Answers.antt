@@ -50,7 +50,7 @@ put_answer lane numbers is_done was_aired is_set_up =
 
 -- a put over a link, for what the hand holds
 abbrev pub put_of : ℕ → Hand → EndState → Outcome
-put_of link (hand.Booking lane n) s = put_answer lane n (is_done (lane_at s (lane_index lane)).sending n.pos) (was_aired_at (lane_at s (lane_index lane)).aired n.pos) (is_set_up s.start link)
+put_of link (hand.Booking lane n) s = put_answer lane n (is_done (lane_at s (lane_index lane)).sending n.pos) (was_aired_at (lane_at s (lane_index lane)).aired n.pos) (is_set_up s.setup link)
 put_of link other s = outcomes.Nothing
 
 abbrev pub airing : ℕ → Lane → Numbers → Bool → List ℕ → Airing

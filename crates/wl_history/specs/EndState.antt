@@ -17,10 +17,11 @@ use Rattle.wl_history.specs.declared.hand.Hand.{Hand}
 use Rattle.wl_history.specs.declared.hand.Hand.TheVariants as hand
 use Rattle.wl_history.specs.declared.outcome.Outcome.{Outcome}
 use Rattle.wl_history.specs.declared.outcome.Outcome.TheVariants as outcomes
+use Rattle.wl_history.specs.declared.setup.Setup.{Setup}
 use Rattle.wl_history.specs.declared.start.EndStart.{EndStart}
-use Rattle.wl_history.specs.Ends.{receive_size}
+use Rattle.wl_history.specs.Ends.{setup_begun, receive_size, IsSetup}
 use Rattle.wl_history.specs.Hands.{hand_of, set_hand}
-use Rattle.wl_history.specs.Sender.{IsSender}
+use Rattle.wl_history.specs.Sender.{IsSender, IsGapless}
 use Rattle.wl_history.specs.Words.{body_at}
 
 -- ---- what an end keeps
@@ -36,6 +37,8 @@ pub record LaneState : Type 0 where
   pub released : List ℕ
   -- by position, whether the booking was aired
   pub aired : List Bool
+  -- the greatest size that its window may have
+  pub room : ℕ
 
 pub record EndState : Type 0 where
   pub start : EndStart
@@ -47,7 +50,7 @@ pub record EndState : Type 0 where
   pub booked : List (List Numbers)
   -- the last pair released of each lane
   pub last : List (Option Pair)
-  pub newest : ℕ
+  pub setup : Setup
   -- the frames aired on each link, by its ID, in order
   pub frames : List (List (List ℕ))
 
@@ -58,7 +61,11 @@ abbrev pub nothing_sent : Sending
 nothing_sent = record { granted = 0; base = 0; marks = [] }
 
 abbrev pub no_lane : LaneState
-no_lane = record { queue = []; sending = nothing_sent; window = no_window; released = []; aired = [] }
+no_lane = record { queue = []; sending = nothing_sent; window = no_window; released = []; aired = []; room = 256 }
+
+-- management bodies go one at a time
+abbrev pub no_management : LaneState
+no_management = record no_lane { room = 1 }
 
 abbrev pub lane_at : EndState → ℕ → LaneState
 lane_at s l = slice_index_or s.lanes l no_lane
@@ -68,7 +75,7 @@ frames_on s link = slice_index_or s.frames link []
 
 -- the lanes of an end that did nothing yet, and its frames
 abbrev pub no_lanes : List LaneState
-no_lanes = no_lane ∷ no_lane ∷ no_lane ∷ no_lane ∷ no_lane ∷ no_lane ∷ no_lane ∷ no_lane ∷ no_lane ∷ []
+no_lanes = no_lane ∷ no_lane ∷ no_lane ∷ no_lane ∷ no_lane ∷ no_lane ∷ no_lane ∷ no_lane ∷ no_management ∷ []
 
 abbrev pub no_frames : List (List (List ℕ))
 no_frames = [] ∷ [] ∷ [] ∷ [] ∷ [] ∷ [] ∷ [] ∷ [] ∷ [] ∷ [] ∷ [] ∷ [] ∷ [] ∷ [] ∷ [] ∷ []
@@ -82,7 +89,7 @@ started start = record {
   numbers = opened start.first_key start.first_pn;
   booked = no_bookings;
   last = no_pairs;
-  newest = start.newest;
+  setup = setup_begun start;
   frames = no_frames;
 }
 
@@ -93,6 +100,9 @@ pub record IsEnd (s : EndState) : Type 0 where
   pub fifteen : length s.frames ≡ 15
   pub short : (l pos : ℕ) → length (body_at (lane_at s l).queue pos) ≤ msdu_limit
   pub sender : IsSender (λ l. (lane_at s l).queue) s.hands s.numbers s.booked (λ l. (lane_at s l).sending)
+  pub gapless : IsGapless s.numbers s.booked
+  pub sized : IsSetup s.setup
+  pub roomy : (l : ℕ) → receive_size s.setup l ≤ (lane_at s l).room
 
 -- ---- parts of the calls
 
@@ -217,5 +227,5 @@ arrival_of sender lane n = record { numbers = n; body = body_at (lane_at sender 
 
 -- a frame of this sender that was heard
 abbrev pub after_heard : EndState → Outcome → EndState → EndState
-after_heard sender (outcomes.Stored lane number n up) s = after_hear lane number (receive_size s.start (lane_index lane)) (arrival_of sender lane n) s
+after_heard sender (outcomes.Stored lane number n up) s = after_hear lane number (receive_size s.setup (lane_index lane)) (arrival_of sender lane n) s
 after_heard sender other s = s

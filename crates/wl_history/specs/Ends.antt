@@ -1,9 +1,11 @@
--- What an end starts with: addresses, links, sizes.
-use Rattle.std.specs.Prelude.{ℕ, ◌==◌, ◌&&◌, if◌then◌else◌, Bool, is_some, List, [], ◌∷◌, Option, Some, None, ◌≡◌, ◌<◌, ◌≤◌, ◌^◌, length}
+-- What an end starts with, and what it has set up: addresses, links, sizes.
+use Rattle.std.specs.Prelude.{ℕ, ◌==◌, if◌then◌else◌, Bool, is_some, List, [], ◌∷◌, Option, Some, None, ◌≡◌, ◌<◌, ◌≤◌, ◌^◌, length}
 use Rattle.wl_elem.specs.declared.lane.EndId.{EndId}
 use Rattle.wl_elem.specs.declared.lane.EndId.TheVariants.{Ap, Sta}
 use Rattle.wl_elem.specs.declared.lane.Lane.TheVariants.{Management}
 use Rattle.wl_elem.specs.Lanes.{lane_index}
+use Rattle.wl_elem.specs.Links.{has_link, set_with}
+use Rattle.wl_history.specs.declared.setup.Setup.{Setup}
 use Rattle.wl_history.specs.declared.start.LinkStart.{LinkStart}
 use Rattle.wl_history.specs.declared.start.EndStart.{EndStart}
 use Rattle.wl_history.specs.declared.start.Start.{Start}
@@ -37,17 +39,34 @@ link_address start id end = address_if (link_at id start.links) end
 abbrev pub is_link : EndStart → ℕ → Bool
 is_link start id = is_some (link_at id start.links)
 
+-- a set with the links of a list in it
+abbrev pub links_in : ℕ → List LinkStart → ℕ
+links_in set [] = set
+links_in set (link ∷ links) = links_in (set_with set link.id) links
+
 -- the links set up at the start: all, or none
-abbrev pub is_set_up : EndStart → ℕ → Bool
-is_set_up start id = start.associated && is_link start id
+abbrev pub links_begun : EndStart → ℕ
+links_begun start = if start.associated then links_in 0 start.links else 0
+
+-- what an end has set up at the start
+abbrev pub setup_begun : EndStart → Setup
+setup_begun start = record { links = links_begun start; window = start.window; keys = start.newest }
+
+abbrev pub is_set_up : Setup → ℕ → Bool
+is_set_up setup id = has_link setup.links id
 
 -- how many positions from its base on an originator may have granted, by the place of the lane
-abbrev pub send_size : EndStart → ℕ → ℕ
-send_size start place = if place == lane_index Management then 16 else start.window
+abbrev pub send_size : Setup → ℕ → ℕ
+send_size setup place = if place == lane_index Management then 16 else setup.window
 
 -- how many numbers a recipient's window has, by the place of the lane
-abbrev pub receive_size : EndStart → ℕ → ℕ
-receive_size start place = if place == lane_index Management then 1 else start.window
+abbrev pub receive_size : Setup → ℕ → ℕ
+receive_size setup place = if place == lane_index Management then 1 else setup.window
+
+-- windows have the sizes that block ack agreements may have here
+pub record IsSetup (setup : Setup) : Type 0 where
+  pub some_window : 1 ≤ setup.window
+  pub window_limit : setup.window ≤ 256
 
 -- what both ends share, and what each is
 pub record IsStart (start : Start) : Type 0 where

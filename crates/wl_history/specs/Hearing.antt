@@ -1,6 +1,6 @@
 -- Frames on the air: the octets that a booking is aired in, and what an end makes of octets that it
 -- hears (IEEE Std 802.11, 10.25.6 and 12.5.2; IEEE Std 802.11be, 35.3).
-use Rattle.std.specs.Prelude.{ℕ, ◌%◌, ◌==◌, ◌&&◌, if◌then◌else◌, not, Bool, true, false, List, [], ◌∷◌, Option, Some, None, Result, Ok, Err, ◌<◌, ◌^◌}
+use Rattle.std.specs.Prelude.{ℕ, ◌%◌, ◌==◌, ◌&&◌, if◌then◌else◌, not, Bool, true, false, List, [], ◌∷◌, Option, Some, None, Result, Ok, Err, ◌<◌, ◌^◌, bytes_eq}
 use Rattle.wl_elem.specs.declared.fault.Refusal.{Refusal}
 use Rattle.wl_elem.specs.declared.why.Why.TheVariants.{WrongAddress}
 use Rattle.wl_elem.specs.declared.lane.EndId.{EndId}
@@ -21,6 +21,7 @@ use Rattle.wl_replay.specs.Keys.{held}
 use Rattle.wl_history.specs.declared.outcome.Outcome.{Outcome}
 use Rattle.wl_history.specs.declared.outcome.Outcome.TheVariants as outcomes
 use Rattle.wl_history.specs.declared.opened.Opened.{Opened}
+use Rattle.wl_history.specs.declared.setup.Setup.{Setup}
 use Rattle.wl_history.specs.declared.start.EndStart.{EndStart}
 use Rattle.wl_history.specs.Ends.{mld_of, link_address, is_set_up}
 use Rattle.wl_history.specs.Words.{Airing, body_at}
@@ -77,12 +78,6 @@ frame_of text start sender a = record {
 abbrev pub octets_of : Sealing → EndStart → EndId → Airing → List ℕ
 octets_of text start sender a = spelling (frame_of text start sender a)
 
-abbrev pub same_octets : List ℕ → List ℕ → Bool
-same_octets [] [] = true
-same_octets [] (b ∷ bs) = false
-same_octets (a ∷ as') [] = false
-same_octets (a ∷ as') (b ∷ bs) = if a == b then same_octets as' bs else false
-
 -- a payload that a receiver tries to open
 pub record Closed : Type 0 where
   pub lane : Lane
@@ -124,18 +119,18 @@ judged_kind newest f AssocAsk = Answered outcomes.Ignored
 judged_kind newest f AssocReply = Answered outcomes.Ignored
 
 -- the tests of a frame at its receiver, in order
-abbrev pub judged_frame : EndStart → EndId → ℕ → ℕ → FrameValue → Judged
-judged_frame start receiver newest link f =
-    if is_protected f.header.kind && not (is_set_up start link) then Answered outcomes.LinkDown
-    else if not (same_octets f.header.a1 (link_address start link receiver)) then Answered (outcomes.BadFrame WrongAddress 4)
-    else if not (same_octets f.header.a2 (link_address start link (peer_of receiver))) then Answered (outcomes.BadFrame WrongAddress 10)
+abbrev pub judged_frame : EndStart → Setup → EndId → ℕ → FrameValue → Judged
+judged_frame start setup receiver link f =
+    if is_protected f.header.kind && not (is_set_up setup link) then Answered outcomes.LinkDown
+    else if not (bytes_eq f.header.a1 (link_address start link receiver)) then Answered (outcomes.BadFrame WrongAddress 4)
+    else if not (bytes_eq f.header.a2 (link_address start link (peer_of receiver))) then Answered (outcomes.BadFrame WrongAddress 10)
     else if is_own_way receiver f.header.kind then Answered (outcomes.BadFrame WrongAddress 1)
-    else judged_kind newest f f.header.kind
+    else judged_kind setup.keys f f.header.kind
 
 -- octets that were read as a frame, or as none
-abbrev pub judged : EndStart → EndId → ℕ → ℕ → Result FrameValue Refusal → Judged
-judged start receiver newest link (Ok f) = judged_frame start receiver newest link f
-judged start receiver newest link (Err refusal) = Answered (outcomes.BadFrame refusal.why refusal.place)
+abbrev pub judged : EndStart → Setup → EndId → ℕ → Result FrameValue Refusal → Judged
+judged start setup receiver link (Ok f) = judged_frame start setup receiver link f
+judged start setup receiver link (Err refusal) = Answered (outcomes.BadFrame refusal.why refusal.place)
 
 -- what the receiver opens the payload under, where it opens to this body
 abbrev pub opened_under : EndStart → EndId → Closed → List ℕ → Opened
@@ -144,7 +139,7 @@ opened_under start receiver c body = sealed_under start (peer_of receiver) c.lan
 -- The booking of the sender that a payload is of, found by its text.
 abbrev pub is_of : Sealing → EndStart → EndId → Closed → List (List ℕ) → Numbers → Bool
 is_of text start receiver c bodies n =
-    n.key == c.key && (n.pn == c.pn && same_octets (text_of text (opened_under start receiver c (body_at bodies n.pos))) c.payload)
+    n.key == c.key && (n.pn == c.pn && bytes_eq (text_of text (opened_under start receiver c (body_at bodies n.pos))) c.payload)
 
 abbrev pub booking_of : Sealing → EndStart → EndId → Closed → List (List ℕ) → List Numbers → Option Numbers
 booking_of text start receiver c bodies [] = None

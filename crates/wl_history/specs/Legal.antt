@@ -31,7 +31,7 @@ use Rattle.wl_elem.specs.Element.{msdu_limit}
 -- a payload, where its sender has the booking or not
 abbrev pub opened_answer : EndState → EndState → Closed → Option Numbers → Outcome
 opened_answer s sender c None = outcomes.NotOpened
-opened_answer s sender c (Some n) = hear_answer c.lane c.number (receive_size s.start (lane_index c.lane)) (arrival_of sender c.lane n) s
+opened_answer s sender c (Some n) = hear_answer c.lane c.number (receive_size s.setup (lane_index c.lane)) (arrival_of sender c.lane n) s
 
 -- the sender's booking that a payload is of, found by its text
 abbrev pub booking_found : Sealing → EndState → EndState → Closed → Option Numbers
@@ -43,7 +43,7 @@ judged_answer text s sender (ToOpen c) = opened_answer s sender c (booking_found
 
 -- what the tests before the opening leave of octets that were read so
 abbrev pub judged_at : EndState → ℕ → Result FrameValue Refusal → Judged
-judged_at s link reading = judged s.start s.start.end s.newest link reading
+judged_at s link reading = judged s.start s.setup s.start.end link reading
 
 -- The answer to octets heard on a link: they are read as a frame, judged, opened and stored.
 abbrev pub HeardAs : Sealing → EndState → EndState → ℕ → List ℕ → Outcome → Type 0
@@ -60,7 +60,7 @@ HeardIf text s sender link (Some octets) outcome = HeardAs text s sender link oc
 abbrev pub IsAnswer : Sealing → ℕ → Command → AirState → Outcome → Type 0
 IsAnswer text thread (commands.Queue end tid body) a outcome = outcome ≡ outcomes.Queued (length (lane_at (end_of a end) tid).queue)
 IsAnswer text thread (commands.Reserve end lane) a outcome =
-    outcome ≡ reserve_answer (hand_of (end_of a end).hands thread) (length (lane_at (end_of a end) (lane_index lane)).queue) (lane_at (end_of a end) (lane_index lane)).sending (send_size (end_of a end).start (lane_index lane))
+    outcome ≡ reserve_answer (hand_of (end_of a end).hands thread) (length (lane_at (end_of a end) (lane_index lane)).queue) (lane_at (end_of a end) (lane_index lane)).sending (send_size (end_of a end).setup (lane_index lane))
 IsAnswer text thread (commands.Book end) a outcome = outcome ≡ book_answer (hand_of (end_of a end).hands thread) (end_of a end).numbers
 IsAnswer text thread (commands.Put end link) a outcome = outcome ≡ put_of link (hand_of (end_of a end).hands thread) (end_of a end)
 IsAnswer text thread (commands.Deliver end link nth) a outcome = HeardIf text (end_of a end) (end_of a (peer_of end)) link (octets_named a end link nth) outcome

@@ -2,6 +2,7 @@ pub mod Ends
 pub mod Hands
 pub mod Words
 pub mod Sender
+pub mod Below
 pub mod Plain
 pub mod EndState
 pub mod Hearing
@@ -10,4 +11,5 @@ pub mod AirState
 pub mod Legal
 pub mod Safe
 pub mod Stands
-pub mod Runs
+pub mod Scripts
+pub mod Cursors

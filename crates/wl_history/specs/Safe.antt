@@ -16,11 +16,12 @@ use Rattle.wl_history.specs.declared.command.Command.TheVariants as commands
 use Rattle.wl_history.specs.declared.outcome.Outcome.{Outcome}
 use Rattle.wl_history.specs.declared.outcome.Outcome.TheVariants as outcomes
 use Rattle.wl_history.specs.declared.arrival.Arrival.{Arrival}
+use Rattle.wl_history.specs.declared.setup.Setup.{Setup}
 use Rattle.wl_history.specs.declared.start.EndStart.{EndStart}
 use Rattle.wl_history.specs.declared.start.Start.{Start}
 use Rattle.wl_history.specs.declared.step.Step.{Step}
 use Rattle.wl_history.specs.Ends.{start_of, is_set_up}
-use Rattle.wl_history.specs.Words.{queued, body_at, booked, Airing, airings, receiving}
+use Rattle.wl_history.specs.Words.{setup_of, queued, body_at, booked, Airing, airings, receiving}
 use Rattle.wl_history.specs.Hearing.{Closed, ToOpen, opened_under, sealed_under, text_of}
 use Rattle.wl_history.specs.EndState.{EndState, lane_at}
 use Rattle.wl_history.specs.AirState.{AirState, end_of, octets_named, state_of}
@@ -59,17 +60,17 @@ pub record NumbersKept (text : Sealing) (start : Start) (e : EndId) (steps : Lis
       → a.numbers.key ≡ b.numbers.key → a.numbers.pn ≡ b.numbers.pn → IsSame text (start_of start e) e a b
 
 -- Link: a frame goes only to a link that its sender has set up and maps the lane to
-abbrev pub PutAllowed : EndStart → ℕ → Outcome → Type 0
-PutAllowed start link (outcomes.Put lane n retry) = is_set_up start link ≡ true
-PutAllowed start link other = Unit {0}
+abbrev pub PutAllowed : Setup → ℕ → Outcome → Type 0
+PutAllowed setup link (outcomes.Put lane n retry) = is_set_up setup link ≡ true
+PutAllowed setup link other = Unit {0}
 
-abbrev pub StepAllowed : Start → Command → Outcome → Type 0
-StepAllowed start (commands.Put end link) outcome = PutAllowed (start_of start end) link outcome
-StepAllowed start other outcome = Unit {0}
+abbrev pub StepAllowed : Start → List Step → Command → Outcome → Type 0
+StepAllowed start before (commands.Put end link) outcome = PutAllowed (setup_of (start_of start end) end before) link outcome
+StepAllowed start before other outcome = Unit {0}
 
 abbrev pub LinksKept : Start → List Step → Type 0
 LinksKept start [] = Unit {0}
-LinksKept start (step ∷ before) = LinksKept start before × StepAllowed start step.command step.outcome
+LinksKept start (step ∷ before) = LinksKept start before × StepAllowed start before step.command step.outcome
 
 -- Key: a body is stored only from a frame that opened under a key that the receiver held, to the body
 -- of a booking of its sender
@@ -79,7 +80,7 @@ pub record OpenedUnder (text : Sealing) (s sender : EndState) (link : ℕ) (lane
   pub closed : Closed
   pub to_open : judged_at s link reading ≡ ToOpen closed
   pub lane_same : closed.lane ≡ lane
-  pub key_held : Holds s.newest n.key
+  pub key_held : Holds s.setup.keys n.key
   pub of_sender : Contains (list_of sender.booked lane) n
   pub opens : text_of text (opened_under s.start s.start.end closed (body_at (lane_at sender (lane_index lane)).queue n.pos)) ≡ closed.payload
 

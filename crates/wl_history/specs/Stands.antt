@@ -5,11 +5,12 @@ use Rattle.wl_elem.specs.Lanes.{lane_count}
 use Rattle.wl_number.specs.declared.numbers.Numbers.{Numbers}
 use Rattle.wl_frame.specs.Sealing.{Sealing}
 use Rattle.wl_history.specs.declared.arrival.Arrival.{Arrival}
+use Rattle.wl_history.specs.declared.setup.Setup.{Setup}
 use Rattle.wl_history.specs.declared.start.Start.{Start}
 use Rattle.wl_history.specs.declared.start.EndStart.{EndStart}
 use Rattle.wl_history.specs.declared.step.Step.{Step}
 use Rattle.wl_history.specs.Ends.{start_of}
-use Rattle.wl_history.specs.Words.{queued, booked, send_key, Receiving, receiving, last_pair, Airing, airings, airings_on, was_aired}
+use Rattle.wl_history.specs.Words.{queued, booked, send_key, setup_of, Receiving, receiving, last_pair, Airing, airings, airings_on, was_aired}
 use Rattle.wl_history.specs.Hearing.{octets_of}
 use Rattle.wl_history.specs.EndState.{LaneState, EndState, lane_at, frames_on, was_aired_at}
 
@@ -29,11 +30,11 @@ pub record LaneTells (l : ℕ) (lane : LaneState) (queue : List (List ℕ)) (got
   pub released : lane.released ≡ positions_of got.released
   pub flags : (pos : ℕ) → was_aired_at lane.aired pos ≡ was_aired l pos aired
 
--- the end that started so has these bodies queued, these bookings, has aired and received this, and sends
--- under this key; lanes are told by their places
-pub record Tells (text : Sealing) (start : EndStart) (e : EndId) (s : EndState) (queue : ℕ → List (List ℕ)) (bookings : List (List Numbers)) (aired : List Airing) (got : ℕ → Receiving) (key : ℕ) : Type 0 where
+-- the end that started so has these bodies queued, these bookings, has aired and received this, sends under
+-- this key, and has this set up; lanes are told by their places
+pub record Tells (text : Sealing) (start : EndStart) (e : EndId) (s : EndState) (queue : ℕ → List (List ℕ)) (bookings : List (List Numbers)) (aired : List Airing) (got : ℕ → Receiving) (key : ℕ) (setup : Setup) : Type 0 where
   pub start_is : s.start ≡ start
-  pub newest_is : s.newest ≡ start.newest
+  pub setup_is : s.setup ≡ setup
   pub key_is : s.numbers.key ≡ key
   pub lanes : (l : ℕ) → l < lane_count → LaneTells l (lane_at s l) (queue l) (got l) aired
   pub booked_are : s.booked ≡ bookings
@@ -43,4 +44,4 @@ pub record Tells (text : Sealing) (start : EndStart) (e : EndId) (s : EndState) 
 -- The end's state has what the words say after these steps, for a sealer of this meaning.
 abbrev pub EndStands : Sealing → Start → EndId → EndState → List Step → Type 0
 EndStands text start e s steps =
-    Tells text (start_of start e) e s (λ l. queued e l steps) (booked e steps) (airings e steps) (λ l. receiving (start_of start e) e l steps) (send_key (start_of start e) e steps)
+    Tells text (start_of start e) e s (λ l. queued e l steps) (booked e steps) (airings e steps) (λ l. receiving (start_of start e) e l steps) (send_key (start_of start e) e steps) (setup_of (start_of start e) e steps)

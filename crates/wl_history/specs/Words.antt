@@ -18,9 +18,10 @@ use Rattle.wl_history.specs.declared.command.Command.TheVariants as commands
 use Rattle.wl_history.specs.declared.outcome.Outcome.{Outcome}
 use Rattle.wl_history.specs.declared.outcome.Outcome.TheVariants as outcomes
 use Rattle.wl_history.specs.declared.arrival.Arrival.{Arrival}
+use Rattle.wl_history.specs.declared.setup.Setup.{Setup}
 use Rattle.wl_history.specs.declared.start.EndStart.{EndStart}
 use Rattle.wl_history.specs.declared.step.Step.{Step}
-use Rattle.wl_history.specs.Ends.{receive_size}
+use Rattle.wl_history.specs.Ends.{setup_begun, receive_size}
 
 -- Queued: the bodies that an end has queued on a lane, in order. A position is a place in this list.
 abbrev pub queue_after : EndId → ℕ → Command → List (List ℕ) → List (List ℕ)
@@ -62,6 +63,14 @@ key_after e other outcome old = old
 abbrev pub send_key : EndStart → EndId → List Step → ℕ
 send_key start e [] = start.first_key
 send_key start e (step ∷ before) = key_after e step.command step.outcome (send_key start e before)
+
+-- Setup: the links that an end has set up, its sizes and the keys that it holds. No command changes them yet.
+abbrev pub setup_after : EndId → Command → Outcome → Setup → Setup
+setup_after e command outcome old = old
+
+abbrev pub setup_of : EndStart → EndId → List Step → Setup
+setup_of start e [] = setup_begun start
+setup_of start e (step ∷ before) = setup_after e step.command step.outcome (setup_of start e before)
 
 -- Of a list: the last, the one at a place, and the one of this number, from 0, or the latest.
 abbrev pub last_of : {A : Type 0} → List A → Option A
@@ -137,7 +146,7 @@ taken other old = old
 abbrev pub received : EndStart → EndId → ℕ → List Step → Outcome → Receiving → Receiving
 received start e l before (outcomes.Stored lane number n up) old =
     if at_place lane l
-    then taken (arrived old.window number (receive_size start l) (record { numbers = n; body = body_at (queued (peer_of e) l before) n.pos })) old
+    then taken (arrived old.window number (receive_size (setup_of start e before) l) (record { numbers = n; body = body_at (queued (peer_of e) l before) n.pos })) old
     else old
 received start e l before other old = old
 

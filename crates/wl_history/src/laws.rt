@@ -18,9 +18,11 @@ ghost use Rattle.wl_history.specs.declared.command.Command.{Command};
 ghost use Rattle.wl_history.specs.declared.hand.Hand.TheVariants.{Empty, Reserve, Booking};
 ghost use Rattle.wl_history.specs.declared.outcome.Outcome.{Outcome};
 ghost use Rattle.wl_history.specs.declared.outcome.Outcome.TheVariants.{Reserved, Spent, Booked};
+ghost use Rattle.wl_history.specs.declared.setup.Setup.{Setup};
 ghost use Rattle.wl_history.specs.declared.start.EndStart.{EndStart};
 ghost use Rattle.wl_history.specs.declared.start.Start.{Start};
 ghost use Rattle.wl_history.specs.declared.step.Step.{Step};
+ghost use Rattle.wl_history.specs.Below.{NumberLaws, WindowLaws};
 ghost use Rattle.wl_history.specs.Hands.{hand_of};
 ghost use Rattle.wl_history.specs.Hearing.{Answered, Closed, IsClosed, ToOpen, judged};
 ghost use Rattle.wl_history.specs.EndState.{EndState, IsEnd, lane_at, started, with_hand, with_frame, after_queue, after_reserve, after_book, after_arrived, after_ack};
@@ -28,7 +30,7 @@ ghost use Rattle.wl_history.specs.AirState.{AirState, end_of, state_of};
 ghost use Rattle.wl_history.specs.Plain.{IsPlain};
 ghost use Rattle.wl_history.specs.Legal.{IsAnswer, Legal};
 ghost use Rattle.wl_history.specs.Stands.{EndStands};
-ghost use Rattle.wl_history.specs.Runs.{asked};
+ghost use Rattle.wl_history.specs.Scripts.{asked};
 ghost use Rattle.wl_history.specs.Safe.{Safe};
 
 use wl_frame::read_once;
@@ -36,6 +38,19 @@ use wl_number::{
     a_draw_is_next, booked_once, highest_breaks_none, in_pair_order, pairs_in_order, stands_exactly,
 };
 use wl_window::{booked_after_ack, booked_after_booking};
+
+/// What the crates below say of bookings, and of windows that send.
+fn laws_below()
+    ensures numbers { NumberLaws }
+    ensures windows { WindowLaws }
+{
+    stands_exactly();
+    highest_breaks_none();
+    a_draw_is_next();
+    pairs_in_order();
+    booked_after_booking();
+    booked_after_ack()
+}
 
 /// What each call keeps of an end, whatever it is told: its bookings keep their order and lie below the
 /// numbers that come next, each reserve and each booking is of a queued body, and hands hold what is
@@ -49,14 +64,9 @@ pub fn an_end_keeps()
     ensures air { (s : EndState) (thread : ℕ) (lane : Lane) (n : Numbers) (link : ℕ) (octets : List ℕ) → IsEnd s → hand_of s.hands thread ≡ Booking lane n → IsEnd (with_hand thread Empty (with_frame link octets lane n s)) }
     ensures hear { (s : EndState) (lane : Lane) (come : Arrived Arrival) → IsEnd s → IsEnd (after_arrived lane come s) }
     ensures ack { (ack : Ack) (s : EndState) → IsEnd s → IsEnd (after_ack ack s) }
-    ensures start { (start : EndStart) → IsEnd (started start) }
+    ensures start { (start : EndStart) → 1 ≤ start.window → start.window ≤ 256 → IsEnd (started start) }
 {
-    stands_exactly();
-    highest_breaks_none();
-    a_draw_is_next();
-    pairs_in_order();
-    booked_after_booking();
-    booked_after_ack()
+    laws_below()
 }
 
 /// The state that a legal history leaves has what the words of the history say: what each end queued,
@@ -64,12 +74,8 @@ pub fn an_end_keeps()
 pub fn words_are_told()
     ensures { (text : Sealing) (start : Start) (steps : List Step) → Legal text start steps → (e : EndId) → EndStands text start e (end_of (state_of text start steps) e) steps }
 {
-    stands_exactly();
-    highest_breaks_none();
-    a_draw_is_next();
-    pairs_in_order();
-    booked_after_booking();
-    booked_after_ack()
+    laws_below();
+    pairs_in_order()
 }
 
 /// Every legal history is safe: whatever commands whatever threads give in whatever order, and
@@ -77,14 +83,10 @@ pub fn words_are_told()
 pub fn every_history_is_safe()
     ensures { (text : Sealing) (start : Start) (steps : List Step) → Legal text start steps → Safe text start steps }
 {
-    stands_exactly();
+    laws_below();
     booked_once();
     in_pair_order();
-    highest_breaks_none();
-    a_draw_is_next();
-    pairs_in_order();
-    booked_after_booking();
-    booked_after_ack()
+    pairs_in_order()
 }
 
 /// A command of a thread has one answer in a state.
@@ -104,12 +106,12 @@ pub fn one_history()
 
 /// What is to be opened is of one of the nine lanes, and its numbers are in their ranges.
 pub fn what_opens_fits()
-    ensures { (start : EndStart) (e : EndId) (newest link : ℕ) (octets : List ℕ) (reading : Result FrameValue Refusal) (c : Closed)
-        → ReadAs octets reading → judged start e newest link reading ≡ ToOpen c → IsClosed c }
+    ensures { (start : EndStart) (setup : Setup) (e : EndId) (link : ℕ) (octets : List ℕ) (reading : Result FrameValue Refusal) (c : Closed)
+        → ReadAs octets reading → judged start setup e link reading ≡ ToOpen c → IsClosed c }
 {}
 
 /// What is answered before the opening stores nothing and acknowledges nothing.
 pub fn what_is_judged_is_plain()
-    ensures { (start : EndStart) (e : EndId) (newest link : ℕ) (reading : Result FrameValue Refusal) (outcome : Outcome)
-        → judged start e newest link reading ≡ Answered outcome → IsPlain outcome }
+    ensures { (start : EndStart) (setup : Setup) (e : EndId) (link : ℕ) (reading : Result FrameValue Refusal) (outcome : Outcome)
+        → judged start setup e link reading ≡ Answered outcome → IsPlain outcome }
 {}

@@ -4,18 +4,22 @@
 mod ack;
 mod arrival;
 mod command;
+mod cursor;
 mod hand;
 mod laws;
 mod lists;
 mod opened;
 mod outcome;
 mod script;
+mod script_laws;
+mod setup;
 mod start;
 mod step;
 
 pub use ack::Ack;
 pub use arrival::Arrival;
 pub use command::Command;
+pub use cursor::Cursor;
 pub use hand::Hand;
 pub use laws::{
     an_end_keeps, every_history_is_safe, one_answer, one_history, what_is_judged_is_plain,
@@ -24,6 +28,8 @@ pub use laws::{
 pub use lists::{Positions, PositionsRoom, SequenceNumbers};
 pub use opened::Opened;
 pub use outcome::{KeptWhy, Outcome};
-pub use script::{Item, Plain, Script};
+pub use script::{Item, Plain, Plains, Script, Stage};
+pub use script_laws::played_once;
+pub use setup::Setup;
 pub use start::{EndStart, LinkStart, LinkStarts, Start};
 pub use step::{Journal, Step, Steps};

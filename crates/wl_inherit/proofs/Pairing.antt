@@ -66,6 +66,13 @@ not_found list id ext from none =
 pub at_pair : (a b c d : List ElementValue) (total : Bool) → a ≡ c → b ≡ d → same_elements a b ≡ total → same_elements c d ≡ total
 at_pair a b c d total e f h = sym (ap (λ (x : List ElementValue). same_elements x b) e ∙ ap (same_elements c) f) ∙ h
 
+-- what the comparison of two bodies says of those of the lists
+pub bodies_judged : (list xs other ys : List ElementValue) (i j : ℕ) (same expected : Bool) → xs ≡ list → ys ≡ other → ((d : ElementValue) → same ≡ pointwise eqb (get_or xs i d).body (get_or ys j d).body) → same ≡ expected
+    → pointwise eqb (get_or list i some_element).body (get_or other j some_element).body ≡ expected
+bodies_judged list xs other ys i j same expected one two judged is =
+    ap (λ (l : List ElementValue). pointwise eqb (get_or l i some_element).body (get_or other j some_element).body) (sym one)
+    ∙ ap (λ (l : List ElementValue). pointwise eqb (get_or xs i some_element).body (get_or l j some_element).body) (sym two) ∙ sym (judged some_element) ∙ is
+
 pub other_bodies : (a b : ElementValue) (xs ys : List ElementValue) → pointwise eqb a.body b.body ≡ false → same_elements (a ∷ xs) (b ∷ ys) ≡ false
 other_bodies a b xs ys e = and_left (same_element a b) (same_elements xs ys) (and_right (eqb a.id b.id && same_ext a.ext b.ext) (pointwise eqb a.body b.body) e)
 

@@ -7,7 +7,8 @@ use Rattle.wl_elem.specs.declared.lane.Lane.{Lane}
 use Rattle.wl_elem.specs.Lanes.{lane_index}
 use Rattle.wl_number.specs.declared.numbers.Numbers.{Numbers}
 use Rattle.wl_number.specs.NumberObject.{NumberObject, made, position_of, drawn, after_draw, entered, last_with}
-use Rattle.wl_number.specs.OrderRule.{pair_below, is_below, OrderRule, NoneBreaks, clash, list_at, list_of}
+use Rattle.wl_elem.specs.Pairs.{pair_below}
+use Rattle.wl_number.specs.OrderRule.{is_below, OrderRule, NoneBreaks, clash, list_at, list_of}
 use Rattle.wl_number.proofs.Pairs.{below_trans, pair_cases, not_back, not_itself, not_same_back, not_same, no_clash_after, clash_of_two}
 use Rattle.wl_number.proofs.Rule.{one_order}
 

@@ -3,7 +3,8 @@ use Rattle.std.proofs.Common.{◌≡◌, ℕ, ◌<◌, Bool, true, false, nat_lt
 use Rattle.std.specs.Prelude.{◌⊎◌, ◌&&◌, ◌||◌}
 use Rattle.std.proofs.lemmas.Bool.{ltb-true, lt-ltb, le-ltb, eqb-true, ne_eqb, and_parts, and_from, or_cases, or_parts, or_from, or_left, or_right, and_left, and_right, false_from_ne_true, cases_order, both_ways}
 use Rattle.wl_number.specs.declared.numbers.Numbers.{Numbers}
-use Rattle.wl_number.specs.OrderRule.{pair_below, is_below, same_pair, clash, Precedes}
+use Rattle.wl_elem.specs.Pairs.{pair_below}
+use Rattle.wl_number.specs.OrderRule.{is_below, same_pair, clash, Precedes}
 
 -- ---- pairs
 

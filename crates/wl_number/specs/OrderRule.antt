@@ -5,11 +5,8 @@ use Rattle.std.specs.Prelude.{◌≡◌, ◌≢◌, ℕ, ◌<◌, ◌==◌, ◌&
 use Rattle.std.specs.List.{AllByRecursion, Contains}
 use Rattle.wl_elem.specs.declared.lane.Lane.{Lane}
 use Rattle.wl_elem.specs.Lanes.{lane_index}
+use Rattle.wl_elem.specs.Pairs.{pair_below}
 use Rattle.wl_number.specs.declared.numbers.Numbers.{Numbers}
-
--- pairs of key and packet number, the key first
-abbrev pub pair_below : ℕ → ℕ → ℕ → ℕ → Bool
-pair_below key pn other_key other_pn = nat_lt key other_key || (key == other_key && nat_lt pn other_pn)
 
 -- the pair of the first is below that of the second
 abbrev pub is_below : Numbers → Numbers → Bool

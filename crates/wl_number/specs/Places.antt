@@ -2,7 +2,8 @@
 use Rattle.std.specs.Prelude.{◌≡◌, ℕ, ◌≤◌, ◌&&◌, nat_lt, Bool, true, false, IsTrue, List, length, Option, Some, None, if◌then◌else◌}
 use Rattle.std.specs.List.{AllWithin, Contains}
 use Rattle.wl_number.specs.declared.numbers.Numbers.{Numbers}
-use Rattle.wl_number.specs.OrderRule.{pair_below, is_below, clash}
+use Rattle.wl_elem.specs.Pairs.{pair_below}
+use Rattle.wl_number.specs.OrderRule.{is_below, clash}
 
 -- the bookings before this place pass the test, and those from it on don't
 pub record IsPlace (test : Numbers → Bool) (list : List Numbers) (place : ℕ) : Type 0 where

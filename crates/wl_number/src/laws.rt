@@ -6,7 +6,8 @@ ghost use Rattle.wl_elem.specs.declared.lane.Lane.{Lane};
 ghost use Rattle.wl_elem.specs.Lanes.{lane_index};
 ghost use Rattle.wl_number.specs.declared.numbers.Numbers.{Numbers};
 ghost use Rattle.wl_number.specs.NumberObject.{NumberObject, after_draw, drawn, entered};
-ghost use Rattle.wl_number.specs.OrderRule.{OrderRule, Precedes, NoneBreaks, is_below, list_at, list_of, pair_below, same_pair, with_booking};
+ghost use Rattle.wl_elem.specs.Pairs.{pair_below};
+ghost use Rattle.wl_number.specs.OrderRule.{OrderRule, Precedes, NoneBreaks, is_below, list_at, list_of, same_pair, with_booking};
 
 /// The rule stands with numbers exactly where no booking breaks it with them.
 pub fn stands_exactly()

@@ -13,5 +13,5 @@ pub use laws::{
     a_draw_is_next, adds_one, booked_once, highest_breaks_none, in_one_order, in_pair_order,
     pairs_in_order, stands_exactly,
 };
-pub use numbers::{BookFault, KeysSpent, Numbers, Spent};
+pub use numbers::{BookFault, Numbers, Spent};
 pub use state::NumberState;

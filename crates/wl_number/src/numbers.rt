@@ -20,10 +20,6 @@ pub struct Numbers {
 #[derive(Clone, Copy, Debug, PartialEq, Eq)]
 pub struct Spent;
 
-/// The key is the last one, number 65,535: there is none after it.
-#[derive(Clone, Copy, Debug, PartialEq, Eq)]
-pub struct KeysSpent;
-
 /// Why numbers weren't booked.
 #[derive(Clone, Copy, Debug, PartialEq, Eq)]
 pub enum BookFault {

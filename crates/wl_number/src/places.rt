@@ -5,7 +5,8 @@ ghost use Rattle.std.specs.Prelude.{◌≡◌, ◌≢◌, ◌≤◌, ◌+◌, �
 ghost use Rattle.std.specs.List.{Contains};
 ghost use Rattle.std.specs.Vec.{vec_len, vec_capacity};
 ghost use Rattle.wl_number.specs.declared.numbers.Numbers.{Numbers};
-ghost use Rattle.wl_number.specs.OrderRule.{pair_below, crossed, clash, Ascending, entered_in};
+ghost use Rattle.wl_elem.specs.Pairs.{pair_below};
+ghost use Rattle.wl_number.specs.OrderRule.{crossed, clash, Ascending, entered_in};
 ghost use Rattle.wl_number.specs.Places.{IsPlace, has_lower_position, has_lower_pair, comes_before, NoClash, FirstClash, lower_of};
 
 use crate::numbers::Numbers;

@@ -3,9 +3,9 @@
 ghost use Rattle.std.specs.Prelude.{◌≡◌, ◌+◌, ◌-◌, ◌^◌, ◌<◌, ◌≤◌, ◌==◌, ◌&&◌, is_err, IfOk, OnOk, OnErr};
 ghost use Rattle.wl_number.specs.NumberObject.{InRange, IsNumberObject, made, opened, position_of, is_spent, drawn, after_draw, turned, entered, turned_to};
 
-use crate::numbers::{KeysSpent, Numbers, Spent};
+use crate::numbers::{Numbers, Spent};
 use std::marker::Model;
-use wl_elem::Lane;
+use wl_elem::{KeysSpent, Lane};
 
 /// The last packet number of a key.
 const LAST_PN: u64 = 0xffff_ffff_ffff;

@@ -3,7 +3,7 @@
 use Rattle.std.specs.Prelude.{ℕ, Bool, true, List, [], ◌∷◌, Option, Some, None, slice_index_or, slice_set}
 use Rattle.wl_elem.specs.declared.lane.Lane.{Lane}
 use Rattle.wl_elem.specs.Lanes.{lane_index}
-use Rattle.wl_number.specs.OrderRule.{pair_below}
+use Rattle.wl_elem.specs.Pairs.{pair_below}
 use Rattle.wl_replay.specs.declared.replay.Pair.{Pair}
 
 -- nothing went up on any lane

@@ -4,7 +4,7 @@ ghost use Rattle.std.specs.Prelude.{◌≡◌, ◌+◌, ◌^◌, ◌<◌, ◌==�
 ghost use Rattle.wl_replay.specs.Keys.{Holds, held, key_id_of};
 
 use std::marker::Model;
-use wl_number::KeysSpent;
+use wl_elem::KeysSpent;
 
 /// The numbers of the temporal keys that a receiver holds: the newest, and the one before it where
 /// there is one. Frames sealed just before a turn still open with the older one.

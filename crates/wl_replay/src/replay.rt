@@ -2,7 +2,7 @@
 
 ghost use Rattle.std.specs.Prelude.{◌≡◌, ◌<◌, if◌then◌else◌, length};
 ghost use Rattle.wl_elem.specs.Lanes.{lane_index, lane_count};
-ghost use Rattle.wl_number.specs.OrderRule.{pair_below};
+ghost use Rattle.wl_elem.specs.Pairs.{pair_below};
 ghost use Rattle.wl_replay.specs.Replay.{no_pairs, last_of, is_above, with_last};
 
 use std::marker::Model;

@@ -1,16 +1,14 @@
 -- What an end reports of its state is what the words of its history say, and they say one thing.
-use Rattle.std.proofs.Common.{◌≡◌, ℕ, zero, suc, ◌+◌, ◌<◌, ◌^◌, ◌==◌, List, [], ◌∷◌, ◌++◌, length, drop, get_or, refl, sym, ap, ◌∙◌, append_assoc, arith}
-use Rattle.std.specs.Int.{bit_at}
-use Rattle.std.proofs.lemmas.Nat.Bits.{bit_at-lt, same_from_bits_below}
+use Rattle.std.proofs.Common.{◌≡◌, ℕ, zero, suc, ◌+◌, ◌<◌, List, [], ◌∷◌, ◌++◌, length, drop, get_or, refl, sym, ap, ◌∙◌, append_assoc, arith}
 use Rattle.wl_elem.specs.declared.lane.EndId.{EndId}
-use Rattle.wl_elem.specs.Links.{has_link}
 use Rattle.wl_frame.specs.Sealing.{Sealing}
 use Rattle.wl_number.specs.Bookings.{booking_count}
+use Rattle.wl_history.specs.declared.setup.Setup.{Setup}
 use Rattle.wl_history.specs.declared.start.EndStart.{EndStart}
 use Rattle.wl_history.specs.declared.start.Start.{Start}
 use Rattle.wl_history.specs.declared.step.Step.{Step}
 use Rattle.wl_history.specs.EndState.{EndState, IsEnd, lane_at}
-use Rattle.wl_history.specs.Ends.{start_of, is_set_up}
+use Rattle.wl_history.specs.Ends.{start_of}
 use Rattle.wl_history.specs.Stands.{EndStands, octets_all, positions_of}
 use Rattle.wl_history.specs.Words.{Airing, airings, airings_on, queued, receiving}
 use Rattle.wl_end.specs.Parts.{frame_count}
@@ -69,29 +67,15 @@ reports text start e s steps t is_end stands is = record {
   booked = is.booked ∙ ap booking_count stands.booked_are;
   emlsr = is.emlsr;
   key = is.key ∙ stands.key_is;
-  links = λ k lt. is.links k lt ∙ ap (λ (x : EndStart). is_set_up x k) stands.start_is;
-  few_links = is.few_links;
+  links = is.links ∙ ap (λ (x : Setup). x.links) stands.setup_is;
   dl = is.dl;
   ul = is.ul;
-  newest = is.newest ∙ stands.newest_is;
+  newest = is.newest ∙ ap (λ (x : Setup). x.keys) stands.setup_is;
   queued = is.queued ∙ per_lane-same (λ l. length (lane_at s l).queue) (λ l. length (queued e l steps)) (λ l lt. ap length (stands.lanes l lt).queue_is);
   released = is.released ∙ per_lane-same (λ l. (lane_at s l).released) (λ l. positions_of (receiving (start_of start e) e l steps).released) (λ l lt. (stands.lanes l lt).released);
 }
 
 -- ---- one report
-
--- a bit is told by whether it is set
-same_bit : (x y : ℕ) → x < 2 → y < 2 → (x == 1) ≡ (y == 1) → x ≡ y
-same_bit zero zero x_bit y_bit same = refl
-same_bit zero (suc zero) x_bit y_bit same = absurd (cc)
-same_bit (suc zero) zero x_bit y_bit same = absurd (cc)
-same_bit (suc zero) (suc zero) x_bit y_bit same = refl
-same_bit (suc (suc x)) y x_bit y_bit same = absurd (omega arith)
-same_bit zero (suc (suc y)) x_bit y_bit same = absurd (omega arith)
-same_bit (suc zero) (suc (suc y)) x_bit y_bit same = absurd (omega arith)
-
-same_set : (a b : ℕ) → a < 2 ^ 15 → b < 2 ^ 15 → ((k : ℕ) → k < 15 → has_link a k ≡ has_link b k) → a ≡ b
-same_set a b a_few b_few same = same_from_bits_below 15 a b a_few b_few (λ k lt. same_bit (bit_at a k) (bit_at b k) (bit_at-lt a k) (bit_at-lt b k) (same k lt))
 
 same_totals : (t u : Totals) → t.aired ≡ u.aired → t.booked ≡ u.booked → t.emlsr ≡ u.emlsr → t.key ≡ u.key → t.links ≡ u.links → t.dl ≡ u.dl → t.ul ≡ u.ul → t.newest ≡ u.newest → t.queued ≡ u.queued → t.released ≡ u.released → t ≡ u
 same_totals t u aired booked emlsr key links dl ul newest queued released = λ i. record {
@@ -109,6 +93,6 @@ same_totals t u aired booked emlsr key links dl ul newest queued released = λ i
 
 pub once : (start : Start) (e : EndId) (steps : List Step) (t u : Totals) → Reports start e steps t → Reports start e steps u → t ≡ u
 once start e steps t u a b =
-    let links : t.links ≡ u.links = same_set t.links u.links a.few_links b.few_links (λ k lt. a.links k lt ∙ sym (b.links k lt)) in
+    let links : t.links ≡ u.links = a.links ∙ sym b.links in
     same_totals t u (a.aired ∙ sym b.aired) (a.booked ∙ sym b.booked) (a.emlsr ∙ sym b.emlsr) (a.key ∙ sym b.key) links (a.dl ∙ ap on_all links ∙ sym b.dl) (a.ul ∙ ap on_all links ∙ sym b.ul)
     (a.newest ∙ sym b.newest) (a.queued ∙ sym b.queued) (a.released ∙ sym b.released)

@@ -16,6 +16,7 @@ use Rattle.wl_history.specs.declared.script.Item.{Item}
 use Rattle.wl_history.specs.declared.script.Item.TheVariants.{Once}
 use Rattle.wl_history.specs.declared.start.Start.{Start}
 use Rattle.wl_history.specs.Ends.{IsStart, is_link, start_of}
+use Rattle.wl_history.specs.Scripts.{plains}
 use Rattle.wl_scene.specs.declared.head.Head.{Head}
 use Rattle.wl_scene.specs.declared.scenario.Scenario.{Scenario}
 use Rattle.wl_scene.specs.declared.fault.SceneFault.{SceneFault}
@@ -25,7 +26,7 @@ use Rattle.wl_scene.specs.Commands.{lane_0, sized, body_at, nth_at, queue_of, se
 use Rattle.wl_scene.specs.Members.{text_at, hex_at}
 use Rattle.wl_scene.specs.Scene.{end_start, scripted, with_commands, command_limit}
 use Rattle.wl_scene.specs.Scene as scene
-use Rattle.wl_scene.specs.Sound.{PlainFits, ItemFits, IsSoundEnd, IsSound, IsSoundHead}
+use Rattle.wl_scene.specs.Sound.{PlainFits, IsSoundEnd, IsSound, IsSoundHead}
 
 -- both ends have the link
 abbrev HasLink : Start → ℕ → Type 0
@@ -93,7 +94,8 @@ plain_fits start link d p has =
 
 record AreItems (start : Start) (count : ℕ) (items : List Item) : Type 0 where
   pub counted : length items ≡ count
-  pub fit : AllByRecursion (ItemFits start) items
+  pub asked : length (plains items) ≡ count
+  pub fit : AllByRecursion (PlainFits start) (plains items)
 
 one_more : (start : Start) (count : ℕ) (c : Option Plain) (others : Result (List Item) ℕ) (items : List Item) → ((p : Plain) → c ≡ Some p → PlainFits start p) → ((left : List Item) → others ≡ Ok left → AreItems start count left)
     → before_others c others ≡ Ok items → AreItems start (suc count) items
@@ -101,10 +103,10 @@ one_more start count None others items fits more same = absurd (cc)
 one_more start count (Some p) (Err number) items fits more same = absurd (cc)
 one_more start count (Some p) (Ok left) items fits more same =
     let is : Once p ∷ left ≡ items = cc in
-    subst (AreItems start (suc count)) is (record { counted = ap suc (more left refl).counted; fit = (fits p refl, (more left refl).fit) })
+    subst (AreItems start (suc count)) is (record { counted = ap suc (more left refl).counted; asked = ap suc (more left refl).asked; fit = (fits p refl, (more left refl).fit) })
 
 all_fit : (start : Start) (link : ℕ) (ds : Items) (items : List Item) → HasLink start link → items_of link ds ≡ Ok items → AreItems start (items_len ds) items
-all_fit start link no_items items has same = let is : [] ≡ items = cc in subst (AreItems start 0) is (record { counted = refl; fit = tt })
+all_fit start link no_items items has same = let is : [] ≡ items = cc in subst (AreItems start 0) is (record { counted = refl; asked = refl; fit = tt })
 all_fit start link (item d ds) items has same =
     one_more start (items_len ds) (command_of link d) (items_of link ds) items (λ p is. plain_fits start link d p has is) (λ left is. all_fit start link ds left has is) same
 
@@ -148,7 +150,7 @@ scripted_sound head ds (Err number) scenario h few is same = absurd (cc)
 scripted_sound head ds (Ok items) scenario h few is same =
     let all = all_fit (scene.start_of head) head.link.id ds items (has_link head) is in
     let made : record { start = scene.start_of head; before = items } ≡ scenario = cc in
-    subst IsSound made (record { start = sound_start head h; ap = sound_end head Ap h; sta = sound_end head Sta h; ends = (refl, refl); few = omega (arith, all.counted, few); fit = all.fit })
+    subst IsSound made (record { start = sound_start head h; ap = sound_end head Ap h; sta = sound_end head Sta h; ends = (refl, refl); few = omega (arith, all.counted, few); few_asked = omega (arith, all.asked, few); fit = all.fit })
 
 counted_sound : (head : Head) (few : Bool) (ds : Items) (scenario : Scenario) → IsSoundHead head → (few ≡ true → items_len ds ≤ 65536) → (if few then scripted head (items_of head.link.id ds) else Err 0) ≡ Ok scenario → IsSound scenario
 counted_sound head true ds scenario h bound same = scripted_sound head ds (items_of head.link.id ds) scenario h (bound refl) refl same

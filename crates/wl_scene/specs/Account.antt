@@ -1,13 +1,12 @@
 -- What an end reports: of its state, and in the words of a history.
-use Rattle.std.specs.Prelude.{◌≡◌, ℕ, zero, suc, ◌+◌, ◌<◌, ◌^◌, List, [], ◌∷◌, length}
+use Rattle.std.specs.Prelude.{◌≡◌, ℕ, zero, suc, ◌+◌, List, [], ◌∷◌, length}
 use Rattle.wl_elem.specs.declared.lane.EndId.{EndId}
 use Rattle.wl_elem.specs.declared.lane.EndId.TheVariants.{Ap, Sta}
-use Rattle.wl_elem.specs.Links.{has_link}
 use Rattle.wl_number.specs.Bookings.{booking_count}
 use Rattle.wl_history.specs.declared.start.Start.{Start}
 use Rattle.wl_history.specs.declared.step.Step.{Step}
 use Rattle.wl_history.specs.EndState.{EndState, lane_at}
-use Rattle.wl_history.specs.Ends.{start_of, is_set_up}
+use Rattle.wl_history.specs.Ends.{start_of}
 use Rattle.wl_history.specs.Stands.{positions_of}
 use Rattle.wl_history.specs.Words as words
 use Rattle.wl_end.specs.Parts.{frame_count}
@@ -35,11 +34,10 @@ pub record IsTotals (s : EndState) (t : Totals) : Type 0 where
   -- no EMLSR mode is in force
   pub emlsr : t.emlsr ≡ 0
   pub key : t.key ≡ s.numbers.key
-  pub links : (k : ℕ) → k < 15 → has_link t.links k ≡ is_set_up s.start k
-  pub few_links : t.links < 2 ^ 15
+  pub links : t.links ≡ s.setup.links
   pub dl : t.dl ≡ on_all t.links
   pub ul : t.ul ≡ on_all t.links
-  pub newest : t.newest ≡ s.newest
+  pub newest : t.newest ≡ s.setup.keys
   pub queued : t.queued ≡ per_lane (λ l. length (lane_at s l).queue)
   pub released : t.released ≡ per_lane (λ l. (lane_at s l).released)
 
@@ -52,11 +50,10 @@ pub record Reports (start : Start) (e : EndId) (steps : List Step) (t : Totals) 
   -- no EMLSR mode is in force
   pub emlsr : t.emlsr ≡ 0
   pub key : t.key ≡ words.send_key (start_of start e) e steps
-  pub links : (k : ℕ) → k < 15 → has_link t.links k ≡ is_set_up (start_of start e) k
-  pub few_links : t.links < 2 ^ 15
+  pub links : t.links ≡ (words.setup_of (start_of start e) e steps).links
   pub dl : t.dl ≡ on_all t.links
   pub ul : t.ul ≡ on_all t.links
-  pub newest : t.newest ≡ (start_of start e).newest
+  pub newest : t.newest ≡ (words.setup_of (start_of start e) e steps).keys
   pub queued : t.queued ≡ per_lane (λ l. length (words.queued e l steps))
   pub released : t.released ≡ per_lane (λ l. positions_of (words.receiving (start_of start e) e l steps).released)
 

@@ -5,13 +5,12 @@ use Rattle.wl_elem.specs.declared.lane.EndId.TheVariants.{Ap, Sta}
 use Rattle.wl_history.specs.declared.command.Command.TheVariants as commands
 use Rattle.wl_history.specs.declared.script.Plain.{Plain}
 use Rattle.wl_history.specs.declared.script.Plain.TheVariants.{Do, Send}
-use Rattle.wl_history.specs.declared.script.Item.{Item}
-use Rattle.wl_history.specs.declared.script.Item.TheVariants.{Once}
 use Rattle.wl_history.specs.declared.start.LinkStart.{LinkStart}
 use Rattle.wl_history.specs.declared.start.EndStart.{EndStart}
 use Rattle.wl_history.specs.declared.start.Start.{Start}
 use Rattle.wl_history.specs.Ends.{IsStart}
 use Rattle.wl_history.specs.Legal.{Fits}
+use Rattle.wl_history.specs.Scripts.{plains}
 use Rattle.wl_scene.specs.declared.head.Head.{Head}
 use Rattle.wl_scene.specs.declared.scenario.Scenario.{Scenario}
 use Rattle.wl_scene.specs.Commands.{lane_0}
@@ -20,9 +19,6 @@ use Rattle.wl_scene.specs.Commands.{lane_0}
 abbrev pub PlainFits : Start → Plain → Type 0
 PlainFits start (Do command) = Fits start command
 PlainFits start (Send end link lane) = Fits start (commands.Reserve end lane) × Fits start (commands.Put end link) × (lane ≡ lane_0)
-
-abbrev pub ItemFits : Start → Item → Type 0
-ItemFits start (Once plain) = PlainFits start plain
 
 abbrev pub IsSoundLink : LinkStart → Type 0
 IsSoundLink link = (length link.ap ≡ 6) × (length link.sta ≡ 6)
@@ -44,7 +40,9 @@ pub record IsSound (scenario : Scenario) : Type 0 where
   pub sta : IsSoundEnd scenario.start.sta
   pub ends : (scenario.start.ap.end ≡ Ap) × (scenario.start.sta.end ≡ Sta)
   pub few : length scenario.before ≤ 65536
-  pub fit : AllByRecursion (ItemFits scenario.start) scenario.before
+  -- what they ask for, loops expanded
+  pub few_asked : length (plains scenario.before) ≤ 65536
+  pub fit : AllByRecursion (PlainFits scenario.start) (plains scenario.before)
 
 -- what holds of the members outside the commands
 pub record IsSoundHead (head : Head) : Type 0 where

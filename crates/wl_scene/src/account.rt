@@ -104,8 +104,6 @@ pub fn end_totals(alloc: Global, end: &End) -> Result<Totals, Memory>
     ensures { IfOk result (IsTotals end.now) }
 {
     let links = end.links();
-    // A set of links is below 2^15.
-    links.bits();
     let released = released(alloc, end)?;
     Ok(Totals {
         aired: end.aired_count(),

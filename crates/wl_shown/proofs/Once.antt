@@ -211,7 +211,7 @@ pub record AllReadOnce : Type 0 where
   pub ask_profiles : OneReading AssocAsk (List LinkAsk) AsksAs
   pub states : OneReading AssocReply (List LinkState) StatesOn
 
-one_answer : AllReadOnce → (kind : Kind) (octets : List ℕ) (a b : Answer) → AnswerAs kind octets a → AnswerAs kind octets b → a ≡ b
+pub one_answer : AllReadOnce → (kind : Kind) (octets : List ℕ) (a b : Answer) → AnswerAs kind octets a → AnswerAs kind octets b → a ≡ b
 one_answer all kinds.Elements octets a b p q = one_listing all.lists all.items octets a b p q
 one_answer all kinds.Action octets a b p q = one_action all.actions all.items octets a b p q
 one_answer all kinds.AssocAsk octets a b p q =
@@ -220,20 +220,24 @@ one_answer all kinds.AssocReply octets a b p q =
     one_body AssocReply LinkState ReadsReply StatesOn (λ reply. reply.elements) (λ reply. codes " " ++ reply_text reply) states_text all.replies all.states all.items octets a b p q
 one_answer all kinds.Frame octets a b p q = one_frame all.frames octets a b p q
 
-one_shown : AllReadOnce → (kind : Kind) (octets a b : List ℕ) → Shown kind octets a → Shown kind octets b → a ≡ b
-one_shown all kind octets a b (x, p, same) (y, q, also) = same ∙ ap answer_text (one_answer all kind octets x y p q) ∙ sym also
+-- octets of a kind have one answer
+abbrev pub AnswersOnce : Type 0
+AnswersOnce = (kind : Kind) (octets : List ℕ) (a b : Answer) → AnswerAs kind octets a → AnswerAs kind octets b → a ≡ b
 
-one_line : AllReadOnce → (line a b : List ℕ) → ShownFor line a → ShownFor line b → a ≡ b
-one_line all line a b (kind, octets, p, shown) (other, more, q, also) =
+one_shown : AnswersOnce → (kind : Kind) (octets a b : List ℕ) → Shown kind octets a → Shown kind octets b → a ≡ b
+one_shown once kind octets a b (x, p, same) (y, q, also) = same ∙ ap answer_text (once kind octets x y p q) ∙ sym also
+
+one_line : AnswersOnce → (line a b : List ℕ) → ShownFor line a → ShownFor line b → a ≡ b
+one_line once line a b (kind, octets, p, shown) (other, more, q, also) =
     let same = one_hex_line line kind other octets more p q in
     let at_kind : Shown kind more b = subst (λ (k : Kind). Shown k more b) (sym same.0) also in
-    one_shown all kind octets a b shown (subst (λ (x : List ℕ). Shown kind x b) (sym same.1) at_kind)
+    one_shown once kind octets a b shown (subst (λ (x : List ℕ). Shown kind x b) (sym same.1) at_kind)
 
 -- one text is shown
-pub one_text : AllReadOnce → (input : List (List ℕ)) (a b : List ℕ) → ShownLines input a → ShownLines input b → a ≡ b
-one_text all [] a b p q = p ∙ sym q
-one_text all (line ∷ input) a b (shown, rest, p, more, same) (shown', rest', q, more', also) =
-    same ∙ ap (λ (x : List ℕ). x ++ 10 ∷ rest) (one_line all line shown shown' p q) ∙ ap (λ (x : List ℕ). shown' ++ 10 ∷ x) (one_text all input rest rest' more more') ∙ sym also
+pub one_text : AnswersOnce → (input : List (List ℕ)) (a b : List ℕ) → ShownLines input a → ShownLines input b → a ≡ b
+one_text once [] a b p q = p ∙ sym q
+one_text once (line ∷ input) a b (shown, rest, p, more, same) (shown', rest', q, more', also) =
+    same ∙ ap (λ (x : List ℕ). x ++ 10 ∷ rest) (one_line once line shown shown' p q) ∙ ap (λ (x : List ℕ). shown' ++ 10 ∷ x) (one_text once input rest rest' more more') ∙ sym also
 
 -- one line is the first bad one
 pub one_bad : (input : List (List ℕ)) (n m : ℕ) → IsFirstBad input n → IsFirstBad input m → n ≡ m
@@ -251,19 +255,19 @@ not_both (line ∷ input) text n (shown, rest, p, more, same) (inr (kind, octets
 
 -- ---- verdicts
 
-one_verdict : AllReadOnce → (line : List ℕ) (a b : Bool) (text other : List ℕ) → VerdictFor line a text → VerdictFor line b other → (a ≡ b) × (text ≡ other)
-one_verdict all line a b text other (kind, octets, p, (answer, answered, accepted, is_text)) (kind', octets', q, (answer', also, accepted', is_other)) =
+one_verdict : AnswersOnce → (line : List ℕ) (a b : Bool) (text other : List ℕ) → VerdictFor line a text → VerdictFor line b other → (a ≡ b) × (text ≡ other)
+one_verdict once line a b text other (kind, octets, p, (answer, answered, accepted, is_text)) (kind', octets', q, (answer', also, accepted', is_other)) =
     let same = one_hex_line line kind kind' octets octets' p q in
     let at_kind : AnswerAs kind octets' answer' = subst (λ (k : Kind). AnswerAs k octets' answer') (sym same.0) also in
-    let one : answer ≡ answer' = one_answer all kind octets answer answer' answered (subst (λ (x : List ℕ). AnswerAs kind x answer') (sym same.1) at_kind) in
+    let one : answer ≡ answer' = once kind octets answer answer' answered (subst (λ (x : List ℕ). AnswerAs kind x answer') (sym same.1) at_kind) in
     (accepted ∙ ap is_accepted one ∙ sym accepted', is_text ∙ ap (verdict_text (length octets)) one ∙ ap (λ (x : List ℕ). verdict_text (length x) answer') same.1 ∙ sym is_other)
 
 -- one text of verdicts, and one first refused line
-pub one_judging : AllReadOnce → (input : List (List ℕ)) (text other : List ℕ) (line next : Option ℕ) → VerdictLines input text line → VerdictLines input other next → (text ≡ other) × (line ≡ next)
-one_judging all [] text other line next p q = (p.0 ∙ sym q.0, p.1 ∙ sym q.1)
-one_judging all (l ∷ input) text other line next (a, v, rest, later, p, more, same, first) (a', v', rest', later', q, more', also, first') =
-    let one = one_verdict all l a a' v v' p q in
-    let others = one_judging all input rest rest' later later' more more' in (
+pub one_judging : AnswersOnce → (input : List (List ℕ)) (text other : List ℕ) (line next : Option ℕ) → VerdictLines input text line → VerdictLines input other next → (text ≡ other) × (line ≡ next)
+one_judging once [] text other line next p q = (p.0 ∙ sym q.0, p.1 ∙ sym q.1)
+one_judging once (l ∷ input) text other line next (a, v, rest, later, p, more, same, first) (a', v', rest', later', q, more', also, first') =
+    let one = one_verdict once l a a' v v' p q in
+    let others = one_judging once input rest rest' later later' more more' in (
       same ∙ ap (λ (x : List ℕ). x ++ 10 ∷ rest) one.1 ∙ ap (λ (x : List ℕ). v' ++ 10 ∷ x) others.0 ∙ sym also,
       first ∙ ap (λ (b : Bool). first_refused b later) one.0 ∙ ap (first_refused a') others.1 ∙ sym first',
     )

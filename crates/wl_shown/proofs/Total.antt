@@ -147,7 +147,7 @@ module _ (B P : Type 0) (Reads : List ℕ → Result B Refusal → Type 0) (Tell
   body_of all tells octets are (Ok v, of) = told_of all octets v of (are v of) (tells v (are v of))
   body_of all tells octets are (Err refusal, refused) = (Err refusal, inl (refusal, refused, refl))
 
-answer_of : AllAreRead → (kind : Kind) (octets : List ℕ) → IsOctets octets → HasAnswer (AnswerAs kind octets)
+pub answer_of : AllAreRead → (kind : Kind) (octets : List ℕ) → IsOctets octets → HasAnswer (AnswerAs kind octets)
 answer_of all kinds.Elements octets are = list_of all octets are (all.lists octets are)
 answer_of all kinds.Action octets are = action_of all octets are (all.actions octets are)
 answer_of all kinds.AssocAsk octets are =
@@ -158,32 +158,36 @@ answer_of all kinds.Frame octets are = frame_of octets (all.frames octets are)
 
 -- ---- lines
 
+-- octets of a kind have an answer
+abbrev pub AnswersMade : Type 0
+AnswersMade = (kind : Kind) (octets : List ℕ) → IsOctets octets → HasAnswer (AnswerAs kind octets)
+
 -- the octets of a hex line have an answer
-line_of : AllAreRead → (line : List ℕ) (kind : Kind) (octets : List ℕ) → IsHexLine line kind octets → HasAnswer (AnswerAs kind octets)
-line_of all line kind octets hex = answer_of all kind octets (hex_octets line kind octets hex)
+line_of : AnswersMade → (line : List ℕ) (kind : Kind) (octets : List ℕ) → IsHexLine line kind octets → HasAnswer (AnswerAs kind octets)
+line_of made line kind octets hex = made kind octets (hex_octets line kind octets hex)
 
 abbrev ShownOrBad : List (List ℕ) → Type 0
 ShownOrBad input = ((text : List ℕ) × ShownLines input text) ⊎ ((line : ℕ) × IsFirstBad input line)
 
-line_shown : AllAreRead → (line : List ℕ) (input : List (List ℕ)) → IsRead line → ShownOrBad input → ShownOrBad (line ∷ input)
-line_shown all line input (inr none) others = inr (1, inl (none, refl))
-line_shown all line input (inl (kind, octets, hex)) (inr (number, bad)) = inr (suc number, inr (kind, octets, number, hex, bad, refl))
-line_shown all line input (inl (kind, octets, hex)) (inl (rest, shown)) =
-    let one = line_of all line kind octets hex in
+line_shown : AnswersMade → (line : List ℕ) (input : List (List ℕ)) → IsRead line → ShownOrBad input → ShownOrBad (line ∷ input)
+line_shown made line input (inr none) others = inr (1, inl (none, refl))
+line_shown made line input (inl (kind, octets, hex)) (inr (number, bad)) = inr (suc number, inr (kind, octets, number, hex, bad, refl))
+line_shown made line input (inl (kind, octets, hex)) (inl (rest, shown)) =
+    let one = line_of made line kind octets hex in
     inl (answer_text one.0 ++ 10 ∷ rest, (answer_text one.0, rest, (kind, octets, hex, (one.0, one.1, refl)), shown, refl))
 
-pub shown_or_bad : AllAreRead → (input : List (List ℕ)) → ShownOrBad input
-shown_or_bad all [] = inl ([], refl)
-shown_or_bad all (line ∷ input) = line_shown all line input (is_read line) (shown_or_bad all input)
+pub shown_or_bad : AnswersMade → (input : List (List ℕ)) → ShownOrBad input
+shown_or_bad made [] = inl ([], refl)
+shown_or_bad made (line ∷ input) = line_shown made line input (is_read line) (shown_or_bad made input)
 
 abbrev JudgedOrBad : List (List ℕ) → Type 0
 JudgedOrBad input = ((text : List ℕ) × (refused : Option ℕ) × VerdictLines input text refused) ⊎ ((line : ℕ) × IsFirstBad input line)
 
-line_judged : AllAreRead → (line : List ℕ) (input : List (List ℕ)) → IsRead line → JudgedOrBad input → JudgedOrBad (line ∷ input)
-line_judged all line input (inr none) others = inr (1, inl (none, refl))
-line_judged all line input (inl (kind, octets, hex)) (inr (number, bad)) = inr (suc number, inr (kind, octets, number, hex, bad, refl))
-line_judged all line input (inl (kind, octets, hex)) (inl (rest, later, judged)) =
-    let one = line_of all line kind octets hex in
+line_judged : AnswersMade → (line : List ℕ) (input : List (List ℕ)) → IsRead line → JudgedOrBad input → JudgedOrBad (line ∷ input)
+line_judged made line input (inr none) others = inr (1, inl (none, refl))
+line_judged made line input (inl (kind, octets, hex)) (inr (number, bad)) = inr (suc number, inr (kind, octets, number, hex, bad, refl))
+line_judged made line input (inl (kind, octets, hex)) (inl (rest, later, judged)) =
+    let one = line_of made line kind octets hex in
     let verdict = verdict_text (length octets) one.0 in
     inl (
       verdict ++ 10 ∷ rest,
@@ -191,6 +195,6 @@ line_judged all line input (inl (kind, octets, hex)) (inl (rest, later, judged))
       (is_accepted one.0, verdict, rest, later, (kind, octets, hex, (one.0, one.1, refl, refl)), judged, refl, refl),
     )
 
-pub judged_or_bad : AllAreRead → (input : List (List ℕ)) → JudgedOrBad input
-judged_or_bad all [] = inl ([], None, (refl, refl))
-judged_or_bad all (line ∷ input) = line_judged all line input (is_read line) (judged_or_bad all input)
+pub judged_or_bad : AnswersMade → (input : List (List ℕ)) → JudgedOrBad input
+judged_or_bad made [] = inl ([], None, (refl, refl))
+judged_or_bad made (line ∷ input) = line_judged made line input (is_read line) (judged_or_bad made input)

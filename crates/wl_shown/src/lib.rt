@@ -17,7 +17,7 @@ mod shown;
 pub use check::{Verdicts, checked_lines};
 pub use decode::{TextFault, shown_lines};
 pub use laws::{
-    judged_is_not_bad, judged_once, refused_once, shown_is_not_bad, shown_once,
-    text_is_judged_or_bad, text_is_shown_or_bad,
+    answers_made, answers_once, judged_is_not_bad, judged_once, refused_once, shown_is_not_bad,
+    shown_once, text_is_judged_or_bad, text_is_shown_or_bad,
 };
 pub use line::Kind;

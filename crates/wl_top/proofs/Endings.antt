@@ -1,12 +1,11 @@
 -- What the endings of a run tell.
-use Rattle.std.proofs.Common.{◌≡◌, ℕ, ◌≤◌, length, arith, List, Option, Some, None, Err, refl, sym, ap, subst, ◌∙◌, inl, inr}
-use Rattle.wl_io.specs.Seen.{Seen, IsUnharmed, IsUntouched}
+use Rattle.std.proofs.Common.{◌≡◌, ℕ, ◌≤◌, length, arith, List, Option, Some, None, refl, sym, ap, subst, ◌∙◌, inl, inr}
+use Rattle.wl_io.specs.Seen.{Seen, IsUnharmed}
 use Rattle.wl_io.specs.Source.{HandsSome}
 use Rattle.wl_io.specs.Reading.{AreAll, read_limit}
 use Rattle.wl_io.specs.Writing.{IsWritten, IsWriteFault}
 use Rattle.wl_frame.specs.Sealing.{Sealing}
 use Rattle.wl_history.specs.declared.step.Journal.{Journal}
-use Rattle.wl_scene.specs.Scene.{SceneOf}
 use Rattle.wl_top.specs.declared.ending.Outcome.{Outcome}
 use Rattle.wl_top.specs.declared.ending.Ending.{Ending}
 use Rattle.wl_top.specs.declared.ending.Ending.TheVariants.{Done, Usage, Refused, ReadFault, WriteFault, Forged, CheckFailed, TooLong, Memory}

@@ -1,5 +1,5 @@
 -- A run has one ending, one journal and one text.
-use Rattle.std.proofs.Common.{◌≡◌, ℕ, List, [], ◌++◌, length, Option, Some, None, Result, Ok, Err, refl, sym, ap, subst, ◌∙◌}
+use Rattle.std.proofs.Common.{◌≡◌, ℕ, List, ◌++◌, length, Option, Some, None, Result, Ok, Err, refl, sym, ap, subst, ◌∙◌}
 use Rattle.wl_elem.specs.declared.lane.EndId.{EndId}
 use Rattle.wl_elem.specs.declared.lane.EndId.TheVariants.{Ap, Sta}
 use Rattle.wl_frame.specs.Sealing.{Sealing}
@@ -8,7 +8,7 @@ use Rattle.wl_history.specs.declared.script.Item.{Item}
 use Rattle.wl_history.specs.declared.start.Start.{Start}
 use Rattle.wl_history.specs.declared.step.Journal.{Journal}
 use Rattle.wl_history.specs.declared.step.Step.{Step}
-use Rattle.wl_history.specs.Runs.{Plays, Stops}
+use Rattle.wl_history.specs.Scripts.{Plays, Stops}
 use Rattle.wl_io.specs.Reading.{AreAll}
 use Rattle.wl_io.specs.Seen.{Seen}
 use Rattle.wl_scene.specs.declared.scenario.Scenario.{Scenario}
@@ -30,9 +30,9 @@ ReportOnce = (start : Start) (e : EndId) (steps : List Step) (t u : Totals) → 
 
 -- a script is played in one way
 pub record PlayedOnce : Type 0 where
-  pub plays : (text : Sealing) (start : Start) (items : List Item) (a b : List Step) → Plays text start items [] a → Plays text start items [] b → a ≡ b
-  pub stops : (text : Sealing) (start : Start) (items : List Item) (a b : List Step) (opened other : Opened) → Stops text start items [] a opened → Stops text start items [] b other → a ≡ b
-  pub either : (text : Sealing) (start : Start) (items : List Item) (a b : List Step) (opened : Opened) → Plays text start items [] a → Stops text start items [] b opened → ⊥
+  pub plays : (text : Sealing) (start : Start) (items : List Item) (a b : List Step) → Plays text start items a → Plays text start items b → a ≡ b
+  pub stops : (text : Sealing) (start : Start) (items : List Item) (a b : List Step) (opened other : Opened) → Stops text start items a opened → Stops text start items b other → a ≡ b
+  pub either : (text : Sealing) (start : Start) (items : List Item) (a b : List Step) (opened : Opened) → Plays text start items a → Stops text start items b opened → ⊥
 
 told_all : (left left' : Option (List ℕ)) (told text : List ℕ) → left ≡ Some told → AreAll left left' text → text ≡ told
 told_all None left' told text is all = absurd (cc is)

@@ -1,37 +1,39 @@
 -- Histories of scenarios, and their texts.
-use Rattle.std.proofs.Common.{◌≡◌, ℕ, List, [], ◌∷◌, Result, Ok, Err, sym, subst, ◌∙◌, inl, inr}
+use Rattle.std.proofs.Common.{◌≡◌, ℕ, List, [], ◌∷◌, Some, None, Result, Ok, Err, sym, subst, ◌∙◌, inl, inr}
 use Rattle.std.specs.Prelude.{OnOk, IfErr}
 use Rattle.std.specs.List.{AllByRecursion}
 use Rattle.wl_frame.specs.Sealing.{Sealing}
-use Rattle.wl_history.specs.declared.script.Item.{Item}
-use Rattle.wl_history.specs.declared.script.Item.TheVariants.{Once}
+use Rattle.wl_history.specs.declared.command.Command.{Command}
+use Rattle.wl_history.specs.declared.script.Plain.{Plain}
 use Rattle.wl_history.specs.declared.script.Plain.TheVariants.{Do, Send}
 use Rattle.wl_history.specs.declared.start.Start.{Start}
 use Rattle.wl_history.specs.declared.step.Journal.{Journal}
 use Rattle.wl_history.specs.declared.step.Step.{Step}
-use Rattle.wl_history.specs.Legal.{Legal}
-use Rattle.wl_history.specs.Runs.{Plays}
+use Rattle.wl_history.specs.AirState.{state_of}
+use Rattle.wl_history.specs.Legal.{Legal, Forges}
+use Rattle.wl_history.specs.Scripts.{Cursor, Performed, Comes, Reaches, asks, plains}
 use Rattle.wl_history.specs.Safe.{Safe}
 use Rattle.wl_air.specs.declared.fault.StepFault.{StepFault}
+use Rattle.wl_air.specs.declared.fault.StepFault.TheVariants as faults
 use Rattle.wl_air.specs.Playing as air
 use Rattle.wl_air.specs.World.{WorldState, Stands}
 use Rattle.wl_scene.specs.declared.scenario.Scenario.{Scenario}
 use Rattle.wl_scene.specs.Scene.{SceneOf}
 use Rattle.wl_scene.specs.Sound as scene
 use Rattle.wl_top.specs.declared.ending.Ending.{Ending}
-use Rattle.wl_top.specs.Simulated.{HasRun, IsOutput, IsHalf, IsWhole, IsSafe, PlayedTo}
+use Rattle.wl_top.specs.Simulated.{BrokenOff, HasRun, IsOutput, IsHalf, IsWhole, IsSafe, PlayedTo}
 
 -- the commands of a scenario are within the limits of a world
-item_fits : (start : Start) (item : Item) → scene.ItemFits start item → air.ItemFits start item
-item_fits start (Once (Do command)) fits = fits
-item_fits start (Once (Send end link lane)) fits = (fits.0, fits.1)
+plain_fits : (start : Start) (plain : Plain) → scene.PlainFits start plain → air.PlainFits start plain
+plain_fits start (Do command) fits = fits
+plain_fits start (Send end link lane) fits = (fits.0, fits.1)
 
-all_fit : (start : Start) (items : List Item) → AllByRecursion (scene.ItemFits start) items → AllByRecursion (air.ItemFits start) items
+all_fit : (start : Start) (left : List Plain) → AllByRecursion (scene.PlainFits start) left → AllByRecursion (air.PlainFits start) left
 all_fit start [] fits = tt
-all_fit start (item ∷ items) fits = (item_fits start item fits.0, all_fit start items fits.1)
+all_fit start (plain ∷ left) fits = (plain_fits start plain fits.0, all_fit start left fits.1)
 
-pub script_fits : (w : WorldState) (s : Scenario) → w.start ≡ s.start → AllByRecursion (scene.ItemFits s.start) s.before → AllByRecursion (air.ItemFits w.start) s.before
-script_fits w s is fits = subst (λ (x : Start). AllByRecursion (air.ItemFits x) s.before) (sym is) (all_fit s.start s.before fits)
+pub script_fits : (w : WorldState) (s : Scenario) → w.start ≡ s.start → AllByRecursion (scene.PlainFits s.start) (plains s.before) → AllByRecursion (air.PlainFits w.start) (plains s.before)
+script_fits w s is fits = subst (λ (x : Start). AllByRecursion (air.PlainFits x) (plains s.before)) (sym is) (all_fit s.start (plains s.before) fits)
 
 -- ---- the journal of a world
 
@@ -72,18 +74,28 @@ half_of text s input ending w journal read is run k = record { scene = s; is_sce
 
 -- ---- what a script made of a world that did nothing yet
 
-at_start : (P : Start → List Step → Type 0) (w : WorldState) (s : Scenario) → w.start ≡ s.start → w.steps ≡ [] → P w.start w.steps → P s.start []
-at_start P w s is none p = subst (λ (x : Start). P x []) is (subst (λ (b : List Step). P w.start b) none p)
+comes : (text : Sealing) (s : Scenario) (w w' : WorldState) (to : Cursor) → w.start ≡ s.start → w'.start ≡ w.start → w.steps ≡ [] → Stands text w' → Performed 0 s.before w.steps w'.steps to → Comes text s.start s.before w'.steps to
+comes text s w w' to is start_is none stands performed = record {
+  legal = subst (λ (x : Start). Legal text x w'.steps) (start_is ∙ is) stands.legal;
+  performed = subst (λ (before : List Step). Performed 0 s.before before w'.steps to) none performed;
+}
 
-pub played_to : (text : Sealing) (s : Scenario) (w w' : WorldState) (played : Result (Unit {0}) StepFault) → w.start ≡ s.start → w.steps ≡ [] → Stands text w
-    → OnOk played (Stands text w → Plays text w.start s.before w.steps w'.steps) → IfErr played (λ fault. Stands text w → air.ScriptFault text w.start s.before w.steps w'.steps fault) → PlayedTo text s w'.steps played
-played_to text s w w' (Ok done) is none stands ok err = at_start (λ (x : Start) (b : List Step). Plays text x s.before b w'.steps) w s is none (ok stands)
-played_to text s w w' (Err fault) is none stands ok err = at_start (λ (x : Start) (b : List Step). air.ScriptFault text x s.before b w'.steps fault) w s is none (err stands)
+broken : (text : Sealing) (s : Scenario) (w : WorldState) (fault : StepFault) (to : Cursor) (command : Command) → w.start ≡ s.start → Stands text w → Comes text s.start s.before w.steps to → asks to ≡ Some command → air.IsWorldFault text w command fault → BrokenOff text s w.steps fault
+broken text s w (faults.Forged opened) to command is stands c asked forged =
+    (to, command, c, asked, subst (λ (x : Start). Forges text command (state_of text x w.steps) opened) is (forged stands))
+broken text s w faults.Memory to command is stands c asked fault = (to, command, c, asked)
 
-pub reached_of : (text : Sealing) (s : Scenario) (input : List ℕ) (w : WorldState) (journal : Journal) → SceneOf input (Ok s) → w.start ≡ s.start → Kept w journal → air.Reaches text s.start s.before [] w.steps → IsHalf text input journal
+pub played_to : (text : Sealing) (s : Scenario) (w w' : WorldState) (played : Result (Unit {0}) StepFault) → w.start ≡ s.start → w'.start ≡ w.start → w.steps ≡ [] → Stands text w'
+    → OnOk played ((to : Cursor) × Performed 0 s.before w.steps w'.steps to × (asks to ≡ None))
+    → IfErr played (λ fault. (to : Cursor) × (command : Command) × Performed 0 s.before w.steps w'.steps to × (asks to ≡ Some command) × air.IsWorldFault text w' command fault) → PlayedTo text s w'.steps played
+played_to text s w w' (Ok done) is start_is none stands (to, performed, ended) err = (to, comes text s w w' to is start_is none stands performed, ended)
+played_to text s w w' (Err fault) is start_is none stands ok (to, command, performed, asked, why) =
+    broken text s w' fault to command (start_is ∙ is) stands (comes text s w w' to is start_is none stands performed) asked why
+
+pub reached_of : (text : Sealing) (s : Scenario) (input : List ℕ) (w : WorldState) (journal : Journal) → SceneOf input (Ok s) → w.start ≡ s.start → Kept w journal → Reaches text s.start s.before w.steps → IsHalf text input journal
 reached_of text s input w journal read is k reaches = record {
   scene = s;
   is_scene = read;
   start_is = k.start_is ∙ is;
-  come = inr (subst (λ (x : List Step). air.Reaches text s.start s.before [] x) (sym k.steps_are) reaches);
+  come = inr (subst (λ (x : List Step). Reaches text s.start s.before x) (sym k.steps_are) reaches);
 }

@@ -1,15 +1,15 @@
 -- What `run` makes of a scenario: its history and the two texts of it.
-use Rattle.std.specs.Prelude.{◌≡◌, ℕ, ◌⊎◌, List, [], ◌++◌, length, Option, Some, None, Result, Ok, Err}
+use Rattle.std.specs.Prelude.{◌≡◌, ℕ, ◌⊎◌, List, ◌++◌, length, Option, Some, None, Result, Ok, Err}
 use Rattle.wl_frame.specs.Sealing.{Sealing}
 use Rattle.wl_history.specs.declared.opened.Opened.{Opened}
 use Rattle.wl_history.specs.declared.start.Start.{Start}
 use Rattle.wl_history.specs.declared.step.Journal.{Journal}
 use Rattle.wl_history.specs.declared.step.Step.{Step}
 use Rattle.wl_history.specs.Legal.{Legal}
-use Rattle.wl_history.specs.Runs.{Plays, Stops}
+use Rattle.wl_history.specs.Scripts.{Plays, Stops, Reaches}
 use Rattle.wl_history.specs.Safe.{Safe}
 use Rattle.wl_air.specs.declared.fault.StepFault.{StepFault}
-use Rattle.wl_air.specs.Playing.{Reaches, ScriptFault}
+use Rattle.wl_air.specs.declared.fault.StepFault.TheVariants as faults
 use Rattle.wl_air.specs.World.{WorldState}
 use Rattle.wl_scene.specs.declared.scenario.Scenario.{Scenario}
 use Rattle.wl_scene.specs.Account.{IsReport}
@@ -23,8 +23,8 @@ use Rattle.wl_top.specs.declared.simulate.Simulated.TheVariants as simulated
 -- The commands of the scenario leave these steps, or the next command after these steps is forged,
 -- which are so many.
 abbrev pub HasRun : Sealing → Scenario → Ending → List Step → Type 0
-HasRun text scene Done steps = Plays text scene.start scene.before [] steps
-HasRun text scene (Forged count) steps = (opened : Opened) × Stops text scene.start scene.before [] steps opened × (count ≡ length steps)
+HasRun text scene Done steps = Plays text scene.start scene.before steps
+HasRun text scene (Forged count) steps = (opened : Opened) × Stops text scene.start scene.before steps opened × (count ≡ length steps)
 HasRun text scene other steps = ⊥
 
 -- the journal's text, then the report's
@@ -38,7 +38,7 @@ pub record IsHalf (text : Sealing) (input : List ℕ) (journal : Journal) : Type
   pub scene : Scenario
   pub is_scene : SceneOf input (Ok scene)
   pub start_is : journal.start ≡ scene.start
-  pub come : ((ending : Ending) × HasRun text scene ending journal.steps) ⊎ Reaches text scene.start scene.before [] journal.steps
+  pub come : ((ending : Ending) × HasRun text scene ending journal.steps) ⊎ Reaches text scene.start scene.before journal.steps
 
 -- the history of the scenario that was read from this input, and its texts
 pub record IsWhole (text : Sealing) (input : List ℕ) (ending : Ending) (journal : Journal) (out : List ℕ) : Type 0 where
@@ -48,10 +48,15 @@ pub record IsWhole (text : Sealing) (input : List ℕ) (ending : Ending) (journa
   pub has_run : HasRun text scene ending journal.steps
   pub is_output : IsOutput scene.start journal.steps out
 
+-- For private contracts alone: the scenario's commands were broken off by this fault, at these steps.
+abbrev pub BrokenOff : Sealing → Scenario → List Step → StepFault → Type 0
+BrokenOff text scene steps (faults.Forged opened) = Stops text scene.start scene.before steps opened
+BrokenOff text scene steps faults.Memory = Reaches text scene.start scene.before steps
+
 -- For private contracts alone: how far the scenario's commands were done, to these steps.
 abbrev pub PlayedTo : Sealing → Scenario → List Step → Result (Unit {0}) StepFault → Type 0
-PlayedTo text scene steps (Ok done) = Plays text scene.start scene.before [] steps
-PlayedTo text scene steps (Err fault) = ScriptFault text scene.start scene.before [] steps fault
+PlayedTo text scene steps (Ok done) = Plays text scene.start scene.before steps
+PlayedTo text scene steps (Err fault) = BrokenOff text scene steps fault
 
 -- the history of a world
 abbrev pub journal_of : WorldState → Journal

@@ -44,7 +44,7 @@ pub fn one_ending()
     wl_shown::judged_is_not_bad();
     wl_scene::read_once();
     wl_scene::reported_once();
-    wl_air::played_once()
+    wl_history::played_once()
 }
 
 /// Each input comes to some ending of `decode`, and to some ending of `check`.
@@ -65,5 +65,5 @@ pub fn one_run()
 {
     wl_scene::read_once();
     wl_scene::reported_once();
-    wl_air::played_once()
+    wl_history::played_once()
 }

@@ -2,12 +2,11 @@
 
 ghost use Rattle.std.specs.Prelude.{◌≡◌, ℕ, List, [], IfOk, IsTrue, is_some, Ok, Some};
 ghost use Rattle.wl_frame.specs.Sealing.{Sealing};
-ghost use Rattle.wl_air.specs.Playing.{ScriptFault};
 ghost use Rattle.wl_air.specs.World.{Stands};
 ghost use Rattle.wl_scene.specs.declared.scenario.Scenario.{Scenario};
 ghost use Rattle.wl_scene.specs.Scene.{SceneOf};
 ghost use Rattle.wl_scene.specs.Sound.{IsSound};
-ghost use Rattle.wl_top.specs.Simulated.{IsOutput, IsSimulated, SimulatedSafe, HasRun, PlayedTo, journal_in, journal_of};
+ghost use Rattle.wl_top.specs.Simulated.{BrokenOff, IsOutput, IsSimulated, SimulatedSafe, HasRun, PlayedTo, journal_in, journal_of};
 
 use crate::ending::Ending;
 use std::alloc::Global;
@@ -67,7 +66,7 @@ fn told(alloc: Global, world: World, ending: Ending) -> Simulated
 /// What came of a world on which a scenario was broken off, by this fault.
 fn broken_off(alloc: Global, world: World, fault: StepFault) -> Simulated
     ensures journal { journal_in result ≡ Some (journal_of world) }
-    ensures simulated { (text : Sealing) (scene : Scenario) (input : List ℕ) → SceneOf input (Ok scene) → world.start ≡ scene.start → ScriptFault text scene.start scene.before [] world.steps fault → Stands text world → IsSimulated text input result }
+    ensures simulated { (text : Sealing) (scene : Scenario) (input : List ℕ) → SceneOf input (Ok scene) → world.start ≡ scene.start → BrokenOff text scene world.steps fault → Stands text world → IsSimulated text input result }
     ensures safe { (text : Sealing) → Stands text world → SimulatedSafe text result }
 {
     every_history_is_safe();

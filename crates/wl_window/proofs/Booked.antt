@@ -1,11 +1,12 @@
--- Which positions are booked, after a booking and after an ack.
-use Rattle.std.proofs.Common.{◌≡◌, ℕ, zero, suc, ◌+◌, ◌-◌, ◌<◌, ◌≤◌, Bool, true, false, eq-eqb, List, [], ◌∷◌, length, Some, None, refl, sym, ap, subst, ◌∙◌, arith, inl, inr}
-use Rattle.std.specs.Prelude.{◌==◌, ◌||◌, nat_lt, if◌then◌else◌, slice_get}
+-- Which positions are booked, after a booking, after an ack and after giving up.
+use Rattle.std.proofs.Common.{◌≡◌, ℕ, zero, suc, ◌+◌, ◌-◌, ◌<◌, ◌≤◌, Bool, true, false, eq-eqb, List, [], ◌∷◌, length, Some, None, Ok, Err, refl, sym, ap, subst, ◌∙◌, arith, inl, inr}
+use Rattle.std.specs.Prelude.{◌==◌, ◌||◌, nat_lt, nat_le, if◌then◌else◌, slice_get}
 use Rattle.std.proofs.lemmas.Bool.{ne_eqb, lt-ltb, le-ltb, cases_lt, cases_eq, cases_order, both_ways}
 use Rattle.wl_window.specs.declared.mark.Mark.{Mark}
 use Rattle.wl_window.specs.declared.mark.Mark.TheVariants.{Free, Booked, Done}
+use Rattle.wl_window.specs.declared.refusal.MoveRefusal.TheVariants.{NotBooked, Behind}
 use Rattle.wl_window.specs.Numbering.{distance}
-use Rattle.wl_window.specs.Originating.{Sending, Acked, booked_mark, is_booked, booked_marks, booked_count, book_at, with_booked, finish, finished, newly, settled, acknowledges, acked, Keeps}
+use Rattle.wl_window.specs.Originating.{Sending, Acked, booked_mark, is_booked, booked_marks, booked_count, book_at, with_booked, finish, finished, newly, settled, acknowledges, acked, top, has_free, given_up, Keeps}
 
 same_after : (k i : ℕ) → (suc k == suc i) ≡ (k == i)
 same_after k i = elim (cases_eq k i) [
@@ -160,3 +161,16 @@ unfolding acked
 acking_keeps s start stored a e =
     keeps_by (nat_lt (length s.marks) (distance s.base start)) s (settled s.granted s.base (finished (acknowledges s.base (distance s.base start) stored) s.marks))
     (newly (acknowledges s.base (distance s.base start) stored) s.marks) a (settled_keeps s (acknowledges s.base (distance s.base start) stored)) e
+
+-- ---- giving up
+
+given_by : (lacks low : Bool) (s t u : Sending) → Keeps s t → (if lacks then Err NotBooked else (if low then Err Behind else Ok t)) ≡ Ok u → Keeps s u
+given_by true low s t u h e = let wrong : Err NotBooked ≡ Ok u = e in absurd (cc wrong)
+given_by false true s t u h e = let wrong : Err Behind ≡ Ok u = e in absurd (cc wrong)
+given_by false false s t u h e = let same : t ≡ u = cc in subst (Keeps s) same h
+
+pub giving_up_keeps : (s t : Sending) (to : ℕ) → given_up s to ≡ Ok t → Keeps s t
+unfolding given_up
+giving_up_keeps s t to e =
+    given_by (nat_lt (top s) to || has_free (to - s.base) s.marks) (nat_le to s.base) s (settled s.granted s.base (finished (λ index. nat_lt index (to - s.base)) s.marks)) t
+    (settled_keeps s (λ index. nat_lt index (to - s.base))) e

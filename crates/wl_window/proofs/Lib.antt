@@ -7,4 +7,6 @@ pub mod Moving
 pub mod Placing
 pub mod Settling
 pub mod Booked
+pub mod Counting
+pub mod Near
 pub mod Turning

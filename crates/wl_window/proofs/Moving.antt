@@ -26,7 +26,7 @@ module _ {T : Type 0} where
   below_none [] to low high le is = refl
   below_none (slot ∷ slots) to low high le is = rw (le-ltb slot.number to (omega (arith, is.0))) (below_none slots to (slot.number + 1) high (omega (arith, is.0)) is.2)
 
-  run_end_least : (start : ℕ) (slots : List (Slot T)) → start ≤ run_end start slots
+  pub run_end_least : (start : ℕ) (slots : List (Slot T)) → start ≤ run_end start slots
   run_end_least start [] = omega arith
   run_end_least start (slot ∷ slots) = cond_both (eqb slot.number start) (run_end (start + 1) slots) start (λ n. start ≤ n) (λ _. omega (arith, run_end_least (start + 1) slots)) (λ _. omega arith)
 
@@ -72,6 +72,17 @@ module _ {T : Type 0} where
     | inl lt ↦ let same : max to (slot.number + 1) ≡ to = omega arith in under to slot slots lt ∙ ap (λ (n : ℕ). after_item slot.item (advanced n slots)) (sym same)
     | inr ge ↦ let same : max to (slot.number + 1) ≡ to + 1 = omega arith in at to slot slots high (omega arith) is ∙ ap (λ (n : ℕ). after_item slot.item (advanced n slots)) (sym same)
   ]
+
+  -- the same of a list that begins with the slot
+  pub due_first : (to next : ℕ) (slot : Slot T) (slots left : List (Slot T)) (high : ℕ) → slots ≡ slot ∷ left → IsRising 0 high slots → slot.number ≤ to → next ≡ max to (slot.number + 1) → advanced to slots ≡ after_item slot.item (advanced next left)
+  due_first to next slot slots left high begins is le e =
+      let rising : IsRising 0 high (slot ∷ left) = subst (λ (l : List (Slot T)). IsRising 0 high l) begins is in
+      ap (advanced to) begins ∙ due to slot left high le rising.2 ∙ ap (λ (n : ℕ). after_item slot.item (advanced n left)) (sym e)
+
+  pub rest_rising : (slot : Slot T) (slots left : List (Slot T)) (high : ℕ) → slots ≡ slot ∷ left → IsRising 0 high slots → IsRising 0 high left
+  rest_rising slot slots left high begins is =
+      let rising : IsRising 0 high (slot ∷ left) = subst (λ (l : List (Slot T)). IsRising 0 high l) begins is in
+      wider left (slot.number + 1) high 0 high (omega arith) (omega arith) rising.2
 
   run_none : (start : ℕ) (slots : List (Slot T)) (high : ℕ) → IsRising (start + 1) high slots → run_end start slots ≡ start
   run_none start [] high is = refl

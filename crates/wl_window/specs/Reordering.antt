@@ -1,5 +1,6 @@
 -- The receive reordering buffer of a block ack agreement (IEEE Std 802.11, 10.25.6).
 use Rattle.std.specs.Prelude.{ℕ, ◌+◌, ◌-◌, ◌^◌, ◌%◌, ◌<◌, ◌≤◌, ◌==◌, nat_lt, nat_le, max, Bool, false, ◌||◌, if◌then◌else◌, List, [], ◌∷◌, length, Option, Some, None, Result, Ok, Err}
+use Rattle.std.specs.List.{AllByRecursion}
 use Rattle.wl_window.specs.Numbering.{distance, full}
 use Rattle.wl_window.specs.Queue.{Queue, received}
 use Rattle.wl_window.specs.declared.slot.Slot.{Slot}
@@ -62,12 +63,24 @@ pub record IsStore {T : Type 0} (store : Store T) : Type 0 where
   -- so fewer are stored than the greatest size
   pub bounded : length store.window.slots < store.room
 
+-- all slots have lower numbers
+abbrev pub AllBelow : {T : Type 0} → ℕ → List (Slot T) → Type 0
+AllBelow high slots = AllByRecursion (λ slot. slot.number < high) slots
+
+-- what is stored lies less than half the number space ahead of the start
+abbrev pub IsNear : {T : Type 0} → Window T → Type 0
+IsNear window = AllBelow (window.start + 2048) window.slots
+
 -- ---- how the window moves
 
 -- what goes up, in order, and the window then
 pub record Moved (T : Type 0) : Type 0 where
   pub up : List T
   pub window : Window T
+
+-- a window moved on, by at most half the number space, and what it stores then is near
+abbrev pub MovesNear : {T : Type 0} → Window T → Moved T → Type 0
+MovesNear window moved = IsNear moved.window × (window.start ≤ moved.window.start) × (moved.window.start ≤ window.start + 2048)
 
 -- what comes of a frame: its number is behind the window, is stored already, or its item is stored
 pub data Arrived (T : Type 0) : Type 0 where
@@ -110,6 +123,12 @@ module _ {T : Type 0} where
   answer item Doubled = Err (Double item)
   answer item (Stored moved) = Ok tt
 
+  -- how many items go up
+  abbrev pub up_count : Arrived T → ℕ
+  up_count Old = 0
+  up_count Doubled = 0
+  up_count (Stored moved) = length moved.up
+
   abbrev pub window_after : Window T → Arrived T → Window T
   window_after window Old = window
   window_after window Doubled = window
@@ -119,6 +138,11 @@ module _ {T : Type 0} where
   queue_after queue Old = queue
   queue_after queue Doubled = queue
   queue_after queue (Stored moved) = received queue moved.up
+
+  -- how many items go up of a request
+  abbrev pub up_count_requested : Option (Moved T) → ℕ
+  up_count_requested None = 0
+  up_count_requested (Some moved) = length moved.up
 
   abbrev pub window_requested : Window T → Option (Moved T) → Window T
   window_requested window None = window

@@ -3,7 +3,7 @@
 ghost use Rattle.std.specs.Prelude.{suc, ◌==◌, ◌≡◌, ◌+◌, ◌-◌, ◌^◌, ◌<◌, ◌≤◌, ◌%◌, ◌∷◌, ◌++◌, ◌||◌, ◌&&◌, ℕ, List, Bool, Option, Some, Result, Ok, false, not, nat_lt, IsPermutation};
 ghost use Rattle.wl_window.specs.Numbering.{distance, full};
 ghost use Rattle.wl_window.specs.Originating.{Sending, Acked, IsSending, is_done, is_booked, acked, acknowledges, given_up, Keeps, booked_count, with_booked};
-ghost use Rattle.wl_window.specs.Reordering.{Store, Window, Moved, Arrived, Stored, IsStore, holds, items, arrived, requested};
+ghost use Rattle.wl_window.specs.Reordering.{Store, Window, Moved, Arrived, Stored, IsStore, IsNear, MovesNear, holds, items, arrived, requested};
 
 /// The full number of 12 bits is the first one from the start on that has them.
 pub fn full_number()
@@ -19,6 +19,18 @@ pub fn stored_sound<T>()
 /// After a request that moves it the window is sound.
 pub fn requested_sound<T>()
     ensures { (store : Store T) (start : ℕ) (moved : Moved T) → IsStore store → store.window.start < 2 ^ 32 - 4096 → requested store.window start ≡ Some moved → IsStore (record { room = store.room; window = moved.window }) × (holds moved.window.start moved.window.slots ≡ false) }
+{}
+
+/// After a frame that is stored the window has moved by at most 2,048 and not back, and all that is
+/// stored lies less than 2,048 ahead of its start, where that held before.
+pub fn stored_near<T>()
+    ensures { (window : Window T) (number size : ℕ) (item : T) (moved : Moved T) → IsNear window → 1 ≤ size → arrived window number size item ≡ Stored moved → MovesNear window moved }
+{}
+
+/// After a request that moves it the window has moved by at most 2,048 and not back, and all that is
+/// stored lies less than 2,048 ahead of its start, where that held before.
+pub fn requested_near<T>()
+    ensures { (window : Window T) (start : ℕ) (moved : Moved T) → IsNear window → requested window start ≡ Some moved → MovesNear window moved }
 {}
 
 /// A frame that is stored loses and doubles nothing: what goes up and what stays are together what was
@@ -51,4 +63,9 @@ pub fn booked_after_booking()
 /// An ack lets nothing go and books nothing.
 pub fn booked_after_ack()
     ensures { (s : Sending) (start : ℕ) (stored : List ℕ) (a : Acked) → acked s start stored ≡ Some a → Keeps s a.sending }
+{}
+
+/// Giving positions up lets nothing go and books nothing.
+pub fn booked_after_giving_up()
+    ensures { (s t : Sending) (to : ℕ) → given_up s to ≡ Ok t → Keeps s t }
 {}

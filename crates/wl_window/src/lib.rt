@@ -13,8 +13,9 @@ mod slot;
 mod ups;
 
 pub use laws::{
-    booked_after_ack, booked_after_booking, done_after_ack, done_after_giving_up, full_number,
-    nothing_lost, order_kept, requested_sound, stored_sound,
+    booked_after_ack, booked_after_booking, booked_after_giving_up, done_after_ack,
+    done_after_giving_up, full_number, nothing_lost, order_kept, requested_near, requested_sound,
+    stored_near, stored_sound,
 };
 pub use mark::Mark;
 pub use numbers12::Numbers12;

@@ -1,8 +1,7 @@
-use Rattle.std.proofs.Common.{◌≡◌, ◌+◌, true, false, eqb, List, drop, get_or, sym, ap, ◌∙◌, arith}
-use Rattle.std.specs.Cmp.Lexicographic.{pointwise}
+use Rattle.std.proofs.Common.{◌+◌, true, false, drop, get_or, sym, ◌∙◌, arith}
 use Rattle.wl_elem.specs.Element.{ElementValue}
 use Rattle.wl_inherit.specs.Identity.{of_identity}
-use Rattle.wl_inherit.proofs.Pairing.{some_element, found, found_has, not_found, at_pair, other_bodies, same_bodies, none_left}
+use Rattle.wl_inherit.proofs.Pairing.{some_element, found, found_has, not_found, at_pair, bodies_judged, other_bodies, same_bodies, none_left}
 use Rattle.wl_inherit.proofs.shrunk.has_same.Goals as goal
 
 pub returns-in_default-find : goal.returns-in_default-find
@@ -17,10 +16,7 @@ returns-then-not-same_at c =
     let second = found c.args.other.now c.args.id c.args.ext c.pairs.other_from c.in-Some-find.j c.in-Some-find.ensures in
     let a = get_or c.args.list.now c.in-Some.i some_element in
     let b = get_or c.args.other.now c.in-Some-find.j some_element in
-    let bodies : pointwise eqb a.body b.body ≡ false =
-    ap (λ (xs : List ElementValue). pointwise eqb (get_or xs c.in-Some.i some_element).body b.body) (sym c.as_slice.ensures.value)
-    ∙ ap (λ (xs : List ElementValue). pointwise eqb (get_or c.as_slice.result.now c.in-Some.i some_element).body (get_or xs c.in-Some-find.j some_element).body) (sym c.as_slice-in-Some.ensures.value)
-    ∙ sym (c.same_at.ensures some_element) ∙ c.if-not-same_at.true in
+    let bodies = bodies_judged c.args.list.now _ c.args.other.now _ c.in-Some.i c.in-Some-find.j _ false c.as_slice.ensures.value c.as_slice-in-Some.ensures.value c.same_at.ensures c.if-not-same_at.true in
     let xs = of_identity c.args.id c.args.ext (drop (c.in-Some.i + 1) c.args.list.now) in
     let ys = of_identity c.args.id c.args.ext (drop (c.in-Some-find.j + 1) c.args.other.now) in
     sym (other_bodies a b xs ys bodies) ∙ at_pair _ _ _ _ _ first second c.pairs.invariant.rest
@@ -31,10 +27,7 @@ pairs-preserved c =
     let second = found c.args.other.now c.args.id c.args.ext c.pairs.other_from c.in-Some-find.j c.in-Some-find.ensures in
     let a = get_or c.args.list.now c.in-Some.i some_element in
     let b = get_or c.args.other.now c.in-Some-find.j some_element in
-    let bodies : pointwise eqb a.body b.body ≡ true =
-    ap (λ (xs : List ElementValue). pointwise eqb (get_or xs c.in-Some.i some_element).body b.body) (sym c.as_slice.ensures.value)
-    ∙ ap (λ (xs : List ElementValue). pointwise eqb (get_or c.as_slice.result.now c.in-Some.i some_element).body (get_or xs c.in-Some-find.j some_element).body) (sym c.as_slice-in-Some.ensures.value)
-    ∙ sym (c.same_at.ensures some_element) ∙ c.if-not-same_at.false in
+    let bodies = bodies_judged c.args.list.now _ c.args.other.now _ c.in-Some.i c.in-Some-find.j _ true c.as_slice.ensures.value c.as_slice-in-Some.ensures.value c.same_at.ensures c.if-not-same_at.false in
     let xs = of_identity c.args.id c.args.ext (drop (c.in-Some.i + 1) c.args.list.now) in
     let ys = of_identity c.args.id c.args.ext (drop (c.in-Some-find.j + 1) c.args.other.now) in
     let one = found_has c.args.list.now c.args.id c.args.ext c.pairs.from c.in-Some.i c.in-Some.ensures in

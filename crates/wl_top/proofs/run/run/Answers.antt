@@ -1,4 +1,3 @@
-use Rattle.std.proofs.Common.{refl}
 use Rattle.wl_io.specs.Seen.{seen}
 use Rattle.wl_top.specs.Simulated.{journal_in}
 use Rattle.wl_top.proofs.Endings.{told_by, run_ended, safe_ended, input_at}

@@ -1,26 +1,49 @@
-use Rattle.wl_air.proofs.Doing.{said, left}
+use Rattle.std.proofs.Common.{length}
+use Rattle.wl_elem.specs.Lanes.{lane_index}
+use Rattle.wl_history.specs.declared.outcome.Outcome.TheVariants as outcomes
+use Rattle.wl_history.specs.Answers.{reserve_answer, book_answer, put_of, aired_octets}
+use Rattle.wl_history.specs.EndState.{lane_at, after_queue, after_reserve, after_book, after_put}
+use Rattle.wl_history.specs.Ends.{send_size}
+use Rattle.wl_history.specs.Hands.{hand_of}
+use Rattle.wl_air.proofs.Doing.{said, left, own_answer, own_after}
 use Rattle.wl_air.proofs.air.Air.act.Goals as goal
 
 pub returns-in-Queue-clause-answer : goal.returns-in-Queue-clause-answer
-returns-in-Queue-clause-answer g c = said (g.Z.Sealer.text c.args.z.now) c.args.thread c.args.self.now (λ o. o.0) c.args.command.now _ c.queue.result c.both.result c.in-Queue.is c.both.ensures.one c.queue.ensures.answer
+returns-in-Queue-clause-answer g c =
+    said (g.Z.Sealer.text c.args.z.now) c.args.thread c.args.self.now (λ o. o.0) c.args.command.now _ c.queue.result c.both.result c.in-Queue.is c.both.ensures.one
+    (own_answer c.in-Queue.end c.args.self.now c.end_mut.result.now c.queue.new.end c.end_mut.ensures.value (λ s. outcomes.Queued (length (lane_at s c.in-Queue.tid).queue)) c.queue.result c.queue.ensures.answer)
 
 pub returns-in-Queue-clause-after : goal.returns-in-Queue-clause-after
-returns-in-Queue-clause-after g c = left (g.Z.Sealer.text c.args.z.now) c.args.thread c.args.self.now (λ o. o.0) c.args.command.now _ c.queue.result c.queue.new.self c.both.result c.in-Queue.is c.both.ensures.one c.queue.ensures.after
+returns-in-Queue-clause-after g c =
+    left (g.Z.Sealer.text c.args.z.now) c.args.thread c.args.self.now (λ o. o.0) c.args.command.now _ c.queue.result _ c.both.result c.in-Queue.is c.both.ensures.one
+    (own_after c.in-Queue.end c.args.self.now c.end_mut.result.now c.queue.new.end c.end_mut.ensures.value (λ o s. after_queue c.in-Queue.tid c.in-Queue.body s) c.queue.result c.queue.ensures.after)
 
 pub returns-in-Reserve-clause-answer : goal.returns-in-Reserve-clause-answer
-returns-in-Reserve-clause-answer g c = said (g.Z.Sealer.text c.args.z.now) c.args.thread c.args.self.now (λ o. o.0) c.args.command.now _ c.reserve.result c.both-in-Reserve.result c.in-Reserve.is c.both-in-Reserve.ensures.one c.reserve.ensures.answer
+returns-in-Reserve-clause-answer g c =
+    said (g.Z.Sealer.text c.args.z.now) c.args.thread c.args.self.now (λ o. o.0) c.args.command.now _ c.reserve.result c.both-in-Reserve.result c.in-Reserve.is c.both-in-Reserve.ensures.one
+    (own_answer c.in-Reserve.end c.args.self.now c.end_mut-in-Reserve.result.now c.reserve.new.self c.end_mut-in-Reserve.ensures.value (λ s. reserve_answer (hand_of s.hands c.args.thread) (length (lane_at s (lane_index c.in-Reserve.lane)).queue) (lane_at s (lane_index c.in-Reserve.lane)).sending (send_size s.setup (lane_index c.in-Reserve.lane))) c.reserve.result c.reserve.ensures.answer)
 
 pub returns-in-Reserve-clause-after : goal.returns-in-Reserve-clause-after
-returns-in-Reserve-clause-after g c = left (g.Z.Sealer.text c.args.z.now) c.args.thread c.args.self.now (λ o. o.0) c.args.command.now _ c.reserve.result c.reserve.new.self c.both-in-Reserve.result c.in-Reserve.is c.both-in-Reserve.ensures.one c.reserve.ensures.after
+returns-in-Reserve-clause-after g c =
+    left (g.Z.Sealer.text c.args.z.now) c.args.thread c.args.self.now (λ o. o.0) c.args.command.now _ c.reserve.result _ c.both-in-Reserve.result c.in-Reserve.is c.both-in-Reserve.ensures.one
+    (own_after c.in-Reserve.end c.args.self.now c.end_mut-in-Reserve.result.now c.reserve.new.self c.end_mut-in-Reserve.ensures.value (λ o s. after_reserve c.args.thread c.in-Reserve.lane o s) c.reserve.result c.reserve.ensures.after)
 
 pub returns-in-Book-clause-answer : goal.returns-in-Book-clause-answer
-returns-in-Book-clause-answer g c = said (g.Z.Sealer.text c.args.z.now) c.args.thread c.args.self.now (λ o. o.0) c.args.command.now _ c.book.result c.both-in-Book.result c.in-Book.is c.both-in-Book.ensures.one c.book.ensures.answer
+returns-in-Book-clause-answer g c =
+    said (g.Z.Sealer.text c.args.z.now) c.args.thread c.args.self.now (λ o. o.0) c.args.command.now _ c.book.result c.both-in-Book.result c.in-Book.is c.both-in-Book.ensures.one
+    (own_answer c.in-Book.end c.args.self.now c.end_mut-in-Book.result.now c.book.new.self c.end_mut-in-Book.ensures.value (λ s. book_answer (hand_of s.hands c.args.thread) s.numbers) c.book.result c.book.ensures.answer)
 
 pub returns-in-Book-clause-after : goal.returns-in-Book-clause-after
-returns-in-Book-clause-after g c = left (g.Z.Sealer.text c.args.z.now) c.args.thread c.args.self.now (λ o. o.0) c.args.command.now _ c.book.result c.book.new.self c.both-in-Book.result c.in-Book.is c.both-in-Book.ensures.one c.book.ensures.after
+returns-in-Book-clause-after g c =
+    left (g.Z.Sealer.text c.args.z.now) c.args.thread c.args.self.now (λ o. o.0) c.args.command.now _ c.book.result _ c.both-in-Book.result c.in-Book.is c.both-in-Book.ensures.one
+    (own_after c.in-Book.end c.args.self.now c.end_mut-in-Book.result.now c.book.new.self c.end_mut-in-Book.ensures.value (λ o s. after_book c.args.thread o s) c.book.result c.book.ensures.after)
 
 pub returns-in-Put-clause-answer : goal.returns-in-Put-clause-answer
-returns-in-Put-clause-answer g c = said (g.Z.Sealer.text c.args.z.now) c.args.thread c.args.self.now (λ o. o.0) c.args.command.now _ c.put.result c.both-in-Put.result c.in-Put.is c.both-in-Put.ensures.one c.put.ensures.answer
+returns-in-Put-clause-answer g c =
+    said (g.Z.Sealer.text c.args.z.now) c.args.thread c.args.self.now (λ o. o.0) c.args.command.now _ c.put.result c.both-in-Put.result c.in-Put.is c.both-in-Put.ensures.one
+    (own_answer c.in-Put.end c.args.self.now c.end_mut-in-Put.result.now c.put.new.self c.end_mut-in-Put.ensures.value (λ s. put_of c.in-Put.link (hand_of s.hands c.args.thread) s) c.put.result c.put.ensures.answer)
 
 pub returns-in-Put-clause-after : goal.returns-in-Put-clause-after
-returns-in-Put-clause-after g c = left (g.Z.Sealer.text c.args.z.now) c.args.thread c.args.self.now (λ o. o.0) c.args.command.now _ c.put.result c.put.new.self c.both-in-Put.result c.in-Put.is c.both-in-Put.ensures.one c.put.ensures.after
+returns-in-Put-clause-after g c =
+    left (g.Z.Sealer.text c.args.z.now) c.args.thread c.args.self.now (λ o. o.0) c.args.command.now _ c.put.result _ c.both-in-Put.result c.in-Put.is c.both-in-Put.ensures.one
+    (own_after c.in-Put.end c.args.self.now c.end_mut-in-Put.result.now c.put.new.self c.end_mut-in-Put.ensures.value (λ o s. after_put c.args.thread c.in-Put.link (aired_octets (g.Z.Sealer.text c.args.z.now) c.in-Put.link (hand_of s.hands c.args.thread) s) o s) c.put.result c.put.ensures.after)

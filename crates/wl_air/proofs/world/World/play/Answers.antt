@@ -1,42 +1,50 @@
-use Rattle.std.proofs.Common.{◌∷◌, ◌+◌, ◌<◌, ◌≤◌, List, length, drop, get_or, ap, subst, ◌∙◌}
-use Rattle.wl_history.specs.declared.script.Item.{Item}
-use Rattle.wl_history.specs.declared.script.Item.TheVariants.{Once}
-use Rattle.wl_air.proofs.Plays.{Goes, goes_first, goes_at, goes_next, goes_wrong, goes_last, goes_room, goes_fit}
+use Rattle.std.proofs.Common.{◌≡◌, ◌<◌, Some, sym, ◌∙◌}
+use Rattle.wl_history.specs.Cursors.{cursor_of}
+use Rattle.wl_history.specs.Scripts.{asks}
+use Rattle.wl_air.proofs.Plays.{Goes, most, goes_first, goes_room, goes_fit, goes_next, goes_down}
 use Rattle.wl_air.proofs.world.World.play.Given.{Over}
 use Rattle.wl_air.proofs.world.World.play.Goals as goal
-use Rattle.wl_air.proofs.world.World.play.Goals.{After-asked}
+use Rattle.wl_air.proofs.world.World.play.Goals.{After-advance}
 
--- the item that is at hand, and those behind it
-module _ (g : Over) (c : After-asked g) where
-  here : Goes (g.Z.Sealer.text c.args.z.now) c.args.self.now c.items.self c.args.script.now (Once c.asked.result.now ∷ drop (c.items.item-index + 1) c.args.script.now)
-  here =
-      goes_at (g.Z.Sealer.text c.args.z.now) c.args.self.now c.items.self c.args.script.now c.items.item-index c.item-item.result c.asked.result.now
-      (subst (λ (l : List Item). c.items.item-index < length l) c.as_slice-item-items.ensures c.items-test.true)
-      (c.item-item.is ∙ ap (λ (l : List Item). get_or l c.items.item-index c.item-item.result) c.as_slice-item-items.ensures)
-      c.asked.ensures c.items.invariant
+module _ (g : Over) (c : After-advance g) where
+  asked : asks (cursor_of c.args.script.now c.steps.cursor) ≡ Some c.in-Some.command
+  asked = sym c.in_ok-command.ensures.ok ∙ c.in-Some.is
 
-pub items-init : goal.items-init
-items-init g c = goes_first (g.Z.Sealer.text c.args.z.now) c.args.self.now c.args.script.now c.requires.room c.requires.fits
+  down : most (cursor_of c.args.script.now c.advance.new.self) < most (cursor_of c.args.script.now c.steps.cursor)
+  down =
+      goes_down (g.Z.Sealer.text c.args.z.now) c.args.self.now c.steps.self c.args.script.now (cursor_of c.args.script.now c.steps.cursor) c.in-Some.command asked c.steps.invariant
+      c.in_ok-outcome.outcome (cursor_of c.args.script.now c.advance.new.self) c.advance.ensures
 
-pub items-preserved : goal.items-preserved
-items-preserved g c =
-    let all = goal.at.items-preserved g c in
-    goes_next (g.Z.Sealer.text c.args.z.now) c.args.self.now c.items.self c.ask.new.self c.args.script.now (drop (c.items.item-index + 1) c.args.script.now) c.asked.result.now (here g all.After-asked)
-    (record { start_is = c.in-Ok.ensures.start; count = c.in-Ok.ensures.count; stands = c.in-Ok.ensures.stands; done = c.in-Ok.ensures.done })
+  goes_on : Goes (g.Z.Sealer.text c.args.z.now) c.args.self.now c.step.new.self c.args.script.now (cursor_of c.args.script.now c.advance.new.self)
+  goes_on =
+      goes_next (g.Z.Sealer.text c.args.z.now) c.args.self.now c.steps.self c.args.script.now (cursor_of c.args.script.now c.steps.cursor) c.in-Some.command asked c.steps.invariant
+      c.step.new.self c.in_ok-outcome.outcome (cursor_of c.args.script.now c.advance.new.self) c.advance.ensures c.in_ok-outcome.ensures.start c.in_ok-outcome.ensures.stepped c.in_ok-outcome.ensures.stands
 
-pub ask-requires-clause-room : goal.ask-requires-clause-room
-ask-requires-clause-room g c = goes_room (g.Z.Sealer.text c.args.z.now) c.args.self.now c.items.self c.args.script.now (drop (c.items.item-index + 1) c.args.script.now) c.asked.result.now (here g c)
+pub steps-init : goal.steps-init
+steps-init g c = goes_first (g.Z.Sealer.text c.args.z.now) c.args.self.now c.args.script.now _ (c.start-cursor.ensures c.args.script.now) c.requires.room c.requires.fits
 
-pub ask-requires-clause-fits : goal.ask-requires-clause-fits
-ask-requires-clause-fits g c = goes_fit (g.Z.Sealer.text c.args.z.now) c.args.self.now c.items.self c.args.script.now (drop (c.items.item-index + 1) c.args.script.now) c.asked.result.now (here g c)
+pub step-requires-clause-room : goal.step-requires-clause-room
+step-requires-clause-room g c =
+    goes_room (g.Z.Sealer.text c.args.z.now) c.args.self.now c.steps.self c.args.script.now (cursor_of c.args.script.now c.steps.cursor) c.in-Some.command (sym c.in_ok-command.ensures.ok ∙ c.in-Some.is) c.steps.invariant
 
-pub returns-in-Err-clause-fault : goal.returns-in-Err-clause-fault
-returns-in-Err-clause-fault g c h =
-    let all = goal.at.returns-in-Err-clause-fault g c in
-    goes_wrong (g.Z.Sealer.text c.args.z.now) c.args.self.now c.items.self c.ask.new.self c.args.script.now (drop (c.items.item-index + 1) c.args.script.now) c.asked.result.now c.in-Err.fault (here g all.After-asked) c.in-Err.ensures.fault h
+pub step-requires-clause-fits : goal.step-requires-clause-fits
+step-requires-clause-fits g c =
+    goes_fit (g.Z.Sealer.text c.args.z.now) c.args.self.now c.steps.self c.args.script.now (cursor_of c.args.script.now c.steps.cursor) c.in-Some.command (sym c.in_ok-command.ensures.ok ∙ c.in-Some.is) c.steps.invariant
 
-pub returns-clause-done : goal.returns-clause-done
-returns-clause-done g c h =
-    goes_last (g.Z.Sealer.text c.args.z.now) c.args.self.now c.items.self c.args.script.now c.items.item-index
-    (subst (λ (l : List Item). length l ≤ c.items.item-index) c.as_slice-item-items.ensures c.items-test.false)
-    c.items.invariant h
+pub steps-smaller : goal.steps-smaller
+steps-smaller g c = let all = goal.at.steps-smaller g c in down g all.After-advance
+
+pub steps-preserved : goal.steps-preserved
+steps-preserved g c = let all = goal.at.steps-preserved g c in goes_on g all.After-advance
+
+pub steps-smaller-in_ok-outcome : goal.steps-smaller-in_ok-outcome
+steps-smaller-in_ok-outcome g c = let all = goal.at.steps-smaller-in_ok-outcome g c in down g all.After-advance
+
+pub steps-preserved-in_ok-outcome : goal.steps-preserved-in_ok-outcome
+steps-preserved-in_ok-outcome g c = let all = goal.at.steps-preserved-in_ok-outcome g c in goes_on g all.After-advance
+
+pub steps-smaller-in_ok-outcome-2 : goal.steps-smaller-in_ok-outcome-2
+steps-smaller-in_ok-outcome-2 g c = let all = goal.at.steps-smaller-in_ok-outcome-2 g c in down g all.After-advance
+
+pub steps-preserved-in_ok-outcome-2 : goal.steps-preserved-in_ok-outcome-2
+steps-preserved-in_ok-outcome-2 g c = let all = goal.at.steps-preserved-in_ok-outcome-2 g c in goes_on g all.After-advance

@@ -3,12 +3,12 @@ use Rattle.wl_history.specs.declared.command.Command.{Command}
 use Rattle.wl_history.specs.declared.outcome.Outcome.TheVariants as outcomes
 use Rattle.wl_history.specs.AirState.{AirState, state_of}
 use Rattle.wl_history.specs.Legal.{Fits, Forges, step_limit}
-use Rattle.wl_history.specs.Runs.{step_of}
+use Rattle.wl_history.specs.Scripts.{step_of}
 use Rattle.wl_air.specs.Acting.{BodyFits, IsStepFault}
-use Rattle.wl_air.specs.Air.{Joined}
+use Rattle.wl_air.specs.Air.{KnowsPeer}
 use Rattle.wl_air.specs.Playing.{IsWorldFault}
 use Rattle.wl_air.specs.World.{WorldState, Stands, world_of}
-use Rattle.wl_air.proofs.Worlds.{joined, body_fits, both_roomy, unchanged, unmade, noted, settled, Acted, kept, stands, fault}
+use Rattle.wl_air.proofs.Worlds.{knows_peer, body_fits, both_roomy, unchanged, unmade, noted, settled, Acted, kept, stands, fault}
 use Rattle.wl_air.proofs.world.World.step.Given.{Over}
 use Rattle.wl_air.proofs.world.World.step.Goals as goal
 use Rattle.wl_air.proofs.world.World.step.Goals.{After-settle}
@@ -26,8 +26,8 @@ module _ (g : Over) (c : After-settle g) where
   room : length c.self.inside.journal.steps < step_limit
   room = subst (λ (w : WorldState). length w.steps < step_limit) (sym c.self.view_is) c.requires.room
 
-  join : Joined c.self.inside.air
-  join = joined c.self.inside.journal.start c.self.inside.air (length c.self.inside.journal.steps) c.self.invariant
+  join : KnowsPeer c.args.command c.self.inside.air
+  join = knows_peer c.self.inside.journal.start c.self.inside.air (length c.self.inside.journal.steps) c.args.command c.self.invariant
 
   goes_on : Stands (g.Z.Sealer.text c.args.z.now) c.args.self.now → Stands (g.Z.Sealer.text c.args.z.now) (world_of c.self.inside.journal.start c.act.new.self c.settle.new.self)
   goes_on h =
@@ -36,7 +36,7 @@ module _ (g : Over) (c : After-settle g) where
 
 pub invariant_of-self-in-Ok : goal.invariant_of-self-in-Ok
 invariant_of-self-in-Ok g c =
-    kept (g.Z.Sealer.text c.args.z.now) c.self.inside.journal.start c.self.inside.air c.act.new.self c.self.inside.journal.steps c.settle.new.self c.args.thread c.args.command c.in-Ok.outcome (room g c) (later g c) (acted g c) c.self.invariant
+    kept c.stored_near.ensures (g.Z.Sealer.text c.args.z.now) c.self.inside.journal.start c.self.inside.air c.act.new.self c.self.inside.journal.steps c.settle.new.self c.args.thread c.args.command c.in-Ok.outcome (room g c) (later g c) (acted g c) c.self.invariant
 
 pub returns-in-Ok-clause-stands : goal.returns-in-Ok-clause-stands
 returns-in-Ok-clause-stands g c h = goes_on g c h
@@ -57,7 +57,7 @@ returns-in-Err-clause-fault g c =
     (fault (g.Z.Sealer.text c.args.z.now) c.self.inside.journal.start c.self.inside.air c.self.inside.journal.steps c.args.command c.in-Err.fault
     (subst (λ (x : Command). IsStepFault (g.Z.Sealer.text c.args.z.now) x c.self.inside.air c.in-Err.fault)
     (noted c.args.thread c.args.command c.latest-command.result.now outcomes.Nothing c.self.inside.journal.steps c.push.new.self c.in_ok-push.ensures.ok c.latest-command.ensures)
-    (c.in-Err.ensures.fault (joined c.self.inside.journal.start c.self.inside.air (length c.self.inside.journal.steps) c.self.invariant))))
+    (c.in-Err.ensures.fault (knows_peer c.self.inside.journal.start c.self.inside.air (length c.self.inside.journal.steps) c.latest-command.result.now c.self.invariant))))
 
 -- a step that wasn't made left all as it was
 pub invariant_of-self : goal.invariant_of-self

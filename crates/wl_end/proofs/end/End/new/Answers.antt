@@ -1,28 +1,37 @@
 use Rattle.std.proofs.Common.{◌≡◌, ◌≤◌, subst, sym}
+use Rattle.wl_history.specs.declared.setup.Setup.{Setup}
 use Rattle.wl_history.specs.declared.start.EndStart.{EndStart}
 use Rattle.wl_history.specs.EndState.{EndState, IsEnd, started}
-use Rattle.wl_end.specs.Parts.{window_limit}
+use Rattle.wl_history.specs.Ends.{setup_begun}
 use Rattle.wl_end.proofs.end.End.new.Goals as goal
-use Rattle.wl_end.proofs.end.End.new.Goals.{After-new-5}
+use Rattle.wl_end.proofs.end.End.new.Goals.{After-new-6}
 
-abbrev made : After-new-5 → EndState
-made c = record { start = c.in_ok-start.start; lanes = c.in_ok-lanes.lanes; hands = c.new-2.result.hands; numbers = c.new-numbers.result; booked = c.new-3.result.lanes; last = c.new-4.result; newest = c.new-keys.result; frames = c.new-5.result }
+abbrev setup_made : After-new-6 → Setup
+setup_made c = record { links = c.links_set_up.result; window = c.in_ok-start.start.window; keys = c.new-2.result }
 
-begun : (c : After-new-5) → made c ≡ started c.in_ok-start.start
+setup_is : (c : After-new-6) → setup_made c ≡ setup_begun c.in_ok-start.start
+setup_is c = λ i. record { links = c.links_set_up.ensures.value i; window = c.in_ok-start.start.window; keys = c.new-2.ensures i }
+
+abbrev made : After-new-6 → EndState
+made c = record { start = c.in_ok-start.start; lanes = c.in_ok-lanes.lanes; hands = c.new-3.result.hands; numbers = c.new-numbers.result; booked = c.new-4.result.lanes; last = c.new-5.result; setup = setup_made c; frames = c.new-6.result }
+
+begun : (c : After-new-6) → made c ≡ started c.in_ok-start.start
 begun c = λ i. record {
   start = c.in_ok-start.start;
   lanes = c.in_ok-lanes.ensures i;
-  hands = c.new-2.ensures i;
+  hands = c.new-3.ensures i;
   numbers = c.new-numbers.ensures i;
-  booked = (c.new-3.ensures i).lanes;
-  last = c.new-4.ensures i;
-  newest = c.new-keys.ensures i;
-  frames = c.new-5.ensures i;
+  booked = (c.new-4.ensures i).lanes;
+  last = c.new-5.ensures i;
+  setup = setup_is c i;
+  frames = c.new-6.ensures i;
 }
 
 pub invariant_of-result : goal.invariant_of-result
-invariant_of-result c = record {
-  sound = subst IsEnd (sym (begun c)) (c.an_end_keeps.ensures.start c.in_ok-start.start);
-  some_window = subst (λ (s : EndStart). 1 ≤ s.window) (sym c.in_ok-start.ensures) c.requires.some_window;
-  no_more = subst (λ (s : EndStart). s.window ≤ window_limit) (sym c.in_ok-start.ensures) c.requires.window_limit;
-}
+invariant_of-result c =
+    let some = subst (λ (s : EndStart). 1 ≤ s.window) (sym c.in_ok-start.ensures) c.requires.some_window in
+    let most = subst (λ (s : EndStart). s.window ≤ 256) (sym c.in_ok-start.ensures) c.requires.window_limit in
+    record {
+      sound = subst IsEnd (sym (begun c)) (c.an_end_keeps.ensures.start c.in_ok-start.start some most);
+      known = c.links_set_up.ensures.known;
+    }

@@ -16,7 +16,7 @@ kept c =
     subst IsEnd (sym (ap made c.replace.ensures.hands)) (any_put_down c.an_end_keeps.ensures.put_down s c.args.thread c.self.invariant.sound held)
 
 pub invariant_of-self : goal.invariant_of-self
-invariant_of-self c = let all = (goal.at.invariant_of-self c).After-replace in record { sound = kept all; some_window = c.self.invariant.some_window; no_more = c.self.invariant.no_more }
+invariant_of-self c = let all = (goal.at.invariant_of-self c).After-replace in record { sound = kept all; known = c.self.invariant.known }
 
 pub returns-clause-sound : goal.returns-clause-sound
 returns-clause-sound c = kept (goal.at.returns-clause-sound c).After-replace

@@ -1,7 +1,7 @@
 use Rattle.std.proofs.Common.{◌≡◌, ◌+◌, ◌-◌, ◌^◌, ℕ, Option, Some, None, sym, ap, subst, ◌∙◌, arith, inl, inr}
 use Rattle.std.specs.Prelude.{is_some}
 use Rattle.wl_window.specs.Numbering.{distance}
-use Rattle.wl_window.specs.Reordering.{Window, Store, Moved, IsRising, IsStore, advanced, requested, window_requested, queue_requested}
+use Rattle.wl_window.specs.Reordering.{Window, Store, Moved, IsRising, IsStore, advanced, requested, up_count_requested, window_requested, queue_requested}
 use Rattle.wl_window.proofs.Arriving.{at_start, behind_is, requested_is, request_sound, same_window}
 use Rattle.wl_window.proofs.reorder.Reorder.request.Given.{Over}
 use Rattle.wl_window.proofs.reorder.Reorder.request.Goals as goal
@@ -33,6 +33,9 @@ sound g c = let start = ap (λ (s : Store g.row.T.Denot). s.window.start) c.self
 
 pub advance-self-inside-requires-clause-rising : goal.advance-self-inside-requires-clause-rising
 advance-self-inside-requires-clause-rising g c = (sound g (goal.at.advance-self-inside-requires-clause-rising g c).After-from).0
+
+pub advance-self-inside-requires-clause-spare : goal.advance-self-inside-requires-clause-spare
+advance-self-inside-requires-clause-spare g c = let due = ap up_count_requested (goes g (goal.at.advance-self-inside-requires-clause-spare g c).After-from) in omega (arith, due, c.requires.spare)
 
 pub invariant_of-self : goal.invariant_of-self
 invariant_of-self g c =

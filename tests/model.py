@@ -25,7 +25,11 @@ class Model:
         self.queue, self.hand = [], None
         self.granted, self.booked, self.done = 0, 0, set()
         self.aired, self.acks = [], []
-        self.start, self.last_pn, self.released = 0, 0, []
+        self.start, self.last_pair, self.released = 0, (0, 0), []
+        # The key that each end sends under, and the newest that it holds; the AP's last packet number, and
+        # key and packet number of each booking.
+        self.key, self.newest = {"ap": 0, "sta": 0}, {"ap": 0, "sta": 0}
+        self.pn, self.numbers = 0, []
 
     def step(self, do, end, members, out, **answer):
         self.lines.append({"t": 0, "do": do, "end": end, "out": out, **members, **answer})
@@ -60,15 +64,18 @@ class Model:
             return self.step("book", "ap", {}, "noreserve")
         self.hand = self.booked
         self.booked += 1
-        pos = self.hand
-        return self.step("book", "ap", {"lane": 0}, "booked", key=0, pn=pos + 1, pos=pos)
+        self.pn += 1
+        self.numbers.append((self.key["ap"], self.pn))
+        key, pn = self.numbers[self.hand]
+        return self.step("book", "ap", {"lane": 0}, "booked", key=key, pn=pn, pos=self.hand)
 
     def do_put(self, _command):
         pos, self.hand = self.hand, None if self.hand != "reserve" else "reserve"
         if pos is None or pos == "reserve" or pos in self.done:
             return self.step("put", "ap", {"link": LINK}, "nothing")
         self.aired.append(pos)
-        numbers = {"lane": 0, "key": 0, "pn": pos + 1, "pos": pos}
+        key, pn = self.numbers[pos]
+        numbers = {"lane": 0, "key": key, "pn": pn, "pos": pos}
         return self.step("put", "ap", {"link": LINK}, "put", retry=False, **numbers)
 
     def do_send(self, command):
@@ -82,13 +89,20 @@ class Model:
         if not 0 <= index < len(self.aired):
             return self.step("deliver", "sta", members, "notthere")
         pos = self.aired[index]
-        if pos + 1 <= self.last_pn:
+        key, pn = self.numbers[pos]
+        # A frame names its key by one bit, and the two newest keys are held.
+        held = [k for k in (self.newest["sta"], self.newest["sta"] - 1) if k >= 0 and k % 2 == key % 2]
+        if not held:
+            return self.step("deliver", "sta", members, "nokey")
+        if held[0] != key:
+            return self.step("deliver", "sta", members, "notopened")
+        if (key, pn) <= self.last_pair:
             return self.step("deliver", "sta", members, "replay")
         # With a window of one whatever is stored goes up at once, and the window passes it.
         if (pos - self.start) % 4096 >= 2048:
             return self.step("deliver", "sta", members, "oldnumber")
         self.start = self.start + (pos - self.start) % 4096 + 1
-        self.last_pn = pos + 1
+        self.last_pair = (key, pn)
         self.released.append(pos)
         return self.step("deliver", "sta", members, "stored", lane=0, number=pos % 4096, up=[pos])
 
@@ -109,6 +123,18 @@ class Model:
         self.done.update(newly)
         return self.step("ack_in", "ap", {"nth": nth}, "done", count=len(newly))
 
+    def do_install(self, command):
+        end = command["end"]
+        self.newest[end] += 1
+        self.step("install", end, {}, "installed", key=self.newest[end])
+
+    def do_turn(self, command):
+        end = command["end"]
+        self.key[end] += 1
+        if end == "ap":
+            self.pn = 0
+        self.step("turn", end, {}, "turned", key=self.key[end])
+
     def report(self):
         runs = []
         for pos in self.released:
@@ -117,20 +143,26 @@ class Model:
             else:
                 runs.append([pos, pos])
         sets = {"dl": [1 << LINK] * 8, "ul": [1 << LINK] * 8}
-        end = {"emlsr": 0, "key": 0, "links": [LINK], "map": sets, "newest": 0}
+        end = {"emlsr": 0, "links": [LINK], "map": sets}
+        keys = {e: {"key": self.key[e], "newest": self.newest[e]} for e in ("ap", "sta")}
         queued = {"0": len(self.queue)} if self.queue else {}
         released = {"0": runs} if runs else {}
         ap = {"aired": len(self.aired), "booked": self.booked, "queued": queued, "released": {}}
         sta = {"aired": 0, "booked": 0, "queued": {}, "released": released}
-        return {"ap": {**end, **ap}, "sta": {**end, **sta}, "steps": len(self.lines), "version": 1}
+        ap, sta = {**end, **keys["ap"], **ap}, {**end, **keys["sta"], **sta}
+        return {"ap": ap, "sta": sta, "steps": len(self.lines), "version": 1}
 
 
 def random_command(source):
     kind = source.choice(
         ["queue"] * 3 + ["send"] * 4 + ["reserve", "book", "put"] * 2 + ["deliver"] * 5
-        + ["ack_out"] * 3 + ["ack_in"] * 4
+        + ["ack_out"] * 3 + ["ack_in"] * 4 + ["turn", "install"]
     )
     command = {"do": kind, "end": "sta" if kind in ("deliver", "ack_out") else "ap"}
+    if kind == "turn" and source.random() < 0.2:
+        command["end"] = "sta"
+    if kind == "install" and source.random() < 0.8:
+        command["end"] = "sta"
     if kind == "queue":
         command.update(tid=0, body=bytes(source.randrange(256) for _ in range(source.randint(1, 40))).hex())
     if kind in ("send", "put", "deliver"):

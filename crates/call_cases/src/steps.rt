@@ -58,6 +58,8 @@ fn command_with(alloc: Global, end: EndId, name: &str, rest: &str) -> Option<Com
             end,
             nth: nth_of(rest)?,
         }),
+        "install" => Some(Command::Install { end }),
+        "turn" => Some(Command::Turn { end }),
         _ => None,
     }
 }
@@ -87,6 +89,7 @@ fn plain_outcome(name: &str) -> Option<Outcome> {
         "oldnumber" => Some(Outcome::OldNumber),
         "double" => Some(Outcome::Double),
         "oldack" => Some(Outcome::OldAck),
+        "keysspent" => Some(Outcome::KeysSpent),
         _ => None,
     }
 }
@@ -118,6 +121,12 @@ pub fn outcome_of(alloc: Global, word: &str) -> Option<Outcome> {
         }),
         ("done", count) => Some(Outcome::Done {
             count: number_of::<u32>(count)?,
+        }),
+        ("installed", key) => Some(Outcome::Installed {
+            key: number_of::<u16>(key)?,
+        }),
+        ("turned", key) => Some(Outcome::Turned {
+            key: number_of::<u16>(key)?,
         }),
         ("spent", lane) => Some(Outcome::Spent {
             lane: lane_of(lane)?,

@@ -27,7 +27,7 @@ use Rattle.wl_history.specs.declared.start.Start.{Start}
 use Rattle.wl_history.specs.Ends.{IsSetup, IsStart, start_of, receive_size}
 use Rattle.wl_history.specs.Hands.{hand_of}
 use Rattle.wl_history.specs.Answers.{aired_octets, acks_made}
-use Rattle.wl_history.specs.EndState.{LaneState, EndState, lane_at, no_lane, no_lanes, no_management, started, frames_on, with_lane, with_frame, put_down, arrival_of, after_queue, after_reserve, after_book, after_put, after_arrived, after_heard, after_acked, after_taken, acked_by}
+use Rattle.wl_history.specs.EndState.{LaneState, EndState, lane_at, no_lane, no_lanes, no_management, started, frames_on, with_lane, with_frame, put_down, arrival_of, after_queue, after_reserve, after_book, after_put, after_arrived, after_heard, after_acked, after_taken, after_install, after_turn, acked_by}
 use Rattle.wl_history.specs.AirState.{AirState, end_of, acks_of, with_end, with_acks, ack_named, begun, after}
 use Rattle.wl_end.specs.Parts.{frame_count}
 use Rattle.wl_history.specs.Legal.{step_limit}
@@ -166,6 +166,15 @@ module _ (s : EndState) where
   taken_grown None = still_grown s
   taken_grown (Some ack) = acked_grown ack (acked_by ack s)
 
+  -- a key that is installed, and one that is turned to
+  install_grown : (o : Outcome) → Grown s (after_install o s)
+  install_grown (outcomes.Installed key) = record { start_same = refl; sized = λ h. record { some_window = h.some_window; window_limit = h.window_limit }; lanes = λ l. lane_still (lane_at s l); booked = omega arith; aired = omega arith }
+  install_grown other = still_grown s
+
+  turn_grown : (o : Outcome) → Grown s (after_turn o s)
+  turn_grown (outcomes.Turned key) = record { start_same = refl; sized = λ h. h; lanes = λ l. lane_still (lane_at s l); booked = omega arith; aired = omega arith }
+  turn_grown other = still_grown s
+
 -- ---- both
 
 module _ (a : AirState) where
@@ -190,6 +199,8 @@ module _ (a : AirState) where
   after_grown law text thread (commands.Deliver end link nth) o some near = at_end end _ (heard_grown (end_of a end) law (end_of a (peer_of end)) o (some end) (near end))
   after_grown law text thread (commands.AckOut end lane) o some near = at_acks end (acks_made lane o (acks_of a end))
   after_grown law text thread (commands.AckIn end nth) o some near = at_end end _ (taken_grown (end_of a end) (ack_named a end nth))
+  after_grown law text thread (commands.Install end) o some near = at_end end _ (install_grown (end_of a end) o)
+  after_grown law text thread (commands.Turn end) o some near = at_end end _ (turn_grown (end_of a end) o)
 
 -- ---- a world
 

@@ -73,12 +73,6 @@ fits_kept : (start : Start) (next : Option Stage) (plain : Plain) (left : List P
 fits_kept start (Some later) plain left fit = fit
 fits_kept start None plain left fit = fit.1
 
-fits_first : (start : Start) (stage : Stage) (plain : Plain) → PlainFits start plain → Fits start (command_at stage plain)
-fits_first start stage (Do command) fit = fit
-fits_first start Reserving (Send end link lane) fit = fit.0
-fits_first start Booking (Send end link lane) fit = tt
-fits_first start Putting (Send end link lane) fit = fit.1
-
 -- what the next step of a cursor needs, and what it leaves
 record Steps (start : Start) (at : Cursor) (command : Command) : Type 0 where
   pub fits : Fits start command
@@ -92,7 +86,7 @@ steps start stage [] command asked fit = absurd (cc asked)
 steps start stage (plain ∷ left) command asked fit =
     let is : command_at stage plain ≡ command = cc asked in
     record {
-      fits = subst (Fits start) is (fits_first start stage plain fit.0);
+      fits = subst (Fits start) is (fit.0 stage);
       some = omega (arith, some_step stage);
       falls = λ o. most_falls (goes_on plain stage o) stage plain left (fewer plain stage o);
       fit = λ o. fits_kept start (goes_on plain stage o) plain left fit;

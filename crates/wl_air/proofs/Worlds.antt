@@ -1,5 +1,5 @@
 -- A step of a world: what was done, and what the journal has of it.
-use Rattle.std.proofs.Common.{◌≡◌, ℕ, suc, ◌<◌, ◌^◌, List, [], ◌∷◌, length, refl, sym, ap, subst, ◌∙◌}
+use Rattle.std.proofs.Common.{◌≡◌, ℕ, suc, ◌<◌, ◌^◌, List, [], ◌∷◌, length, refl, sym, ap, subst, ◌∙◌, Option, Some, None}
 use Rattle.wl_elem.specs.declared.lane.EndId.{EndId}
 use Rattle.wl_elem.specs.declared.lane.EndId.TheVariants.{Ap, Sta}
 use Rattle.wl_elem.specs.Lanes.{peer_of}
@@ -11,14 +11,14 @@ use Rattle.wl_history.specs.declared.outcome.Outcome.{Outcome}
 use Rattle.wl_history.specs.declared.start.EndStart.{EndStart}
 use Rattle.wl_history.specs.declared.start.Start.{Start}
 use Rattle.wl_history.specs.declared.step.Step.{Step}
-use Rattle.wl_history.specs.AirState.{AirState, end_of, begun, after, state_of}
+use Rattle.wl_history.specs.AirState.{AirState, end_of, begun, after, state_of, hearer}
 use Rattle.wl_history.specs.Ends.{IsStart, start_of, mld_of}
 use Rattle.wl_history.specs.Legal.{Fits, InRanges, IsAnswer, Forges, step_limit}
 use Rattle.wl_history.specs.Scripts.{step_of}
 use Rattle.wl_air.specs.declared.fault.StepFault.{StepFault}
 use Rattle.wl_air.specs.declared.fault.StepFault.TheVariants as faults
 use Rattle.wl_air.specs.Acting.{BodyFits, IsStepFault}
-use Rattle.wl_air.specs.Air.{AreJoined, KnowsPeer}
+use Rattle.wl_air.specs.Air.{AreJoined, KnowsPeer, KnowsIf}
 use Rattle.wl_air.specs.Playing.{IsWorldFault}
 use Rattle.wl_air.specs.World.{IsWorld, IsRoomy, Stands, world_of}
 use Rattle.wl_air.proofs.Bounds.{roomy, world_kept}
@@ -60,8 +60,11 @@ both_joined start a steps w e =
     record { peer = peer; ap_same = ap_same; sta_same = sta_same; key_same = key_same; six = six }
 
 pub knows_peer : (start : Start) (a : AirState) (steps : ℕ) (command : Command) → IsWorld start a steps → KnowsPeer command a
-knows_peer start a steps (commands.Deliver end link nth) w = both_joined start a steps w end
-knows_peer start a steps other w = tt
+knows_peer start a steps command w = knows_if (hearer command)
+  where
+    knows_if : (end : Option EndId) → KnowsIf end a
+    knows_if None = tt
+    knows_if (Some end) = both_joined start a steps w end
 
 -- ---- a step
 

@@ -6,8 +6,8 @@ ghost use Rattle.wl_elem.specs.Element.{msdu_limit};
 ghost use Rattle.wl_elem.specs.Lanes.{lane_index, peer_of};
 ghost use Rattle.wl_history.specs.declared.opened.Opened.{Opened};
 ghost use Rattle.wl_history.specs.declared.outcome.Outcome.TheVariants.{Queued as IsQueued, Acked as IsAcked};
-ghost use Rattle.wl_history.specs.Answers.{reserve_answer, book_answer, put_of, aired_octets, ack_out_answer, ack_answer, acks_made};
-ghost use Rattle.wl_history.specs.EndState.{lane_at, after_queue, after_reserve, after_book, after_put, after_taken, after_heard};
+ghost use Rattle.wl_history.specs.Answers.{reserve_answer, book_answer, put_of, aired_octets, ack_out_answer, ack_answer, acks_made, install_answer, turn_answer};
+ghost use Rattle.wl_history.specs.EndState.{lane_at, after_queue, after_reserve, after_book, after_put, after_taken, after_heard, after_install, after_turn};
 ghost use Rattle.wl_history.specs.Ends.{send_size};
 ghost use Rattle.wl_history.specs.Hands.{hand_of};
 ghost use Rattle.wl_history.specs.Legal.{HeardIf, ForgedIf, IsAnswer, Forges};
@@ -117,6 +117,30 @@ fn take(end: &mut End, ack: Option<&Ack>) -> Outcome
     match end.ack_in(ack) {
         Some(count) => Outcome::Done { count },
         None => Outcome::OldAck,
+    }
+}
+
+/// Lets an end hold the next key.
+fn install(end: &mut End) -> Outcome
+    ensures answer { result ≡ install_answer end.old.setup.keys }
+    ensures plain { IsPlain result }
+    ensures after { end.new ≡ after_install result end.old }
+{
+    match end.install() {
+        Ok(key) => Outcome::Installed { key },
+        Err(_) => Outcome::KeysSpent,
+    }
+}
+
+/// Lets an end turn to the next key.
+fn turn(end: &mut End) -> Outcome
+    ensures answer { result ≡ turn_answer end.old.numbers }
+    ensures plain { IsPlain result }
+    ensures after { end.new ≡ after_turn result end.old }
+{
+    match end.turn() {
+        Ok(key) => Outcome::Turned { key },
+        Err(_) => Outcome::KeysSpent,
     }
 }
 
@@ -291,6 +315,8 @@ impl Air {
                 Err(_) => Err(StepFault::Memory),
             },
             Command::AckIn { end, nth } => Ok(twice(self.ack_in(*end, *nth))),
+            Command::Install { end } => Ok(twice(install(self.end_mut(*end)))),
+            Command::Turn { end } => Ok(twice(turn(self.end_mut(*end)))),
         }
     }
 }

@@ -4,7 +4,7 @@ ghost use Rattle.std.specs.Prelude.{◌≡◌, ◌∷◌, ◌+◌, ◌<◌, ◌�
 ghost use Rattle.wl_history.specs.declared.opened.Opened.{Opened};
 ghost use Rattle.wl_history.specs.declared.step.Step.{Step};
 ghost use Rattle.wl_history.specs.Ends.{IsStart};
-ghost use Rattle.wl_history.specs.Legal.{Fits, Forges, InRanges, InWord, step_limit};
+ghost use Rattle.wl_history.specs.Legal.{Fits, Forges, step_limit};
 ghost use Rattle.wl_history.specs.Scripts.{step_of};
 ghost use Rattle.wl_history.specs.Safe.{Safe};
 ghost use Rattle.wl_air.specs.Acting.{BodyFits, IsStepFault};
@@ -37,28 +37,6 @@ impl Model for World {
     ghost view = { λ w. world_of w.journal.start w.air w.journal.steps };
 
     ghost invariant = { λ w. IsWorld w.journal.start w.air (length w.journal.steps) };
-}
-
-/// A number is one of 32 bits.
-fn test_number(nth: Option<u32>)
-    ensures { InWord nth }
-{}
-
-/// The links of a command have IDs below 15, and the numbers that it names have 32 bits.
-fn test_ranges(command: &Command)
-    ensures { InRanges command.now }
-{
-    match command {
-        Command::Put { link, .. } => {
-            link.get();
-        }
-        Command::Deliver { link, nth, .. } => {
-            link.get();
-            test_number(*nth);
-        }
-        Command::AckIn { nth, .. } => test_number(*nth),
-        _ => (),
-    }
 }
 
 /// The command of the latest step.
@@ -129,7 +107,7 @@ impl World {
     {
         every_history_is_safe();
         stored_near::<Arrival>();
-        test_ranges(&command);
+        command.test();
         // The room for the step is taken first: what an end did can't be undone.
         self.journal.steps.push(Step {
             thread,

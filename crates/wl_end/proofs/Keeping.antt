@@ -13,7 +13,10 @@ use Rattle.wl_window.specs.declared.refusal.OriginRefusal.TheVariants.{NothingQu
 use Rattle.wl_window.specs.Originating.{Sending, Acked, reserved, sending_after, granted_answer, sending_acked}
 use Rattle.wl_history.specs.declared.ack.Ack.{Ack}
 use Rattle.wl_history.specs.declared.arrival.Arrival.{Arrival}
-use Rattle.wl_history.specs.EndState.{EndState, LaneState, IsEnd, lane_at, no_lane, after_arrived, after_acked}
+use Rattle.wl_number.specs.NumberObject.{NumberObject, turned}
+use Rattle.wl_history.specs.declared.outcome.Outcome.{Outcome}
+use Rattle.wl_history.specs.declared.outcome.Outcome.TheVariants as outcomes
+use Rattle.wl_history.specs.EndState.{EndState, LaneState, IsEnd, lane_at, no_lane, after_arrived, after_acked, after_turn}
 use Rattle.wl_end.specs.Parts.{with_lane_of}
 use Rattle.wl_end.specs.Listening.{lane_after, pairs_after}
 
@@ -67,3 +70,10 @@ pub acked_lanes : (ack : Ack) (s : EndState) (o : Option Acked)
     → (let t : EndState = record s { lanes = with_lane_of s.lanes ack.lane (record (lane_at s (lane_index ack.lane)) { sending = sending_acked (lane_at s (lane_index ack.lane)).sending o }) } in t) ≡ after_acked ack o s
 acked_lanes ack s None = ap (λ (l : List LaneState). let t : EndState = record s { lanes = l } in t) (set-get_or s.lanes (lane_index ack.lane) no_lane)
 acked_lanes ack s (Some acked) = refl
+
+-- ---- keys
+
+pub turned_kept : {E : Type 0} → ((o : Outcome) (t : EndState) → IsEnd t → IsEnd (after_turn o t)) → (s : EndState) (r : Result ℕ E) (numbers : NumberObject) → IsEnd s → OnOk r (numbers ≡ turned s.numbers) → OnErr r (numbers ≡ s.numbers)
+    → IsEnd (record s { numbers = numbers })
+turned_kept law s (Ok key) numbers is ok err = subst (λ (o : NumberObject). IsEnd (record s { numbers = o })) (sym ok) (law (outcomes.Turned key) s is)
+turned_kept law s (Err e) numbers is ok err = subst (λ (o : NumberObject). IsEnd (record s { numbers = o })) (sym err) is

@@ -1,6 +1,6 @@
 //! Ends.
 
-ghost use Rattle.std.specs.Prelude.{◌≡◌, ◌+◌, ◌-◌, ◌%◌, ◌^◌, ◌<◌, ◌≤◌, ℕ, Option, [], false, true, length, option_copied, IfOk, IfSome, IfNone, OnOk, OnErr};
+ghost use Rattle.std.specs.Prelude.{◌≡◌, ◌==◌, is_err, ◌+◌, ◌-◌, ◌%◌, ◌^◌, ◌<◌, ◌≤◌, ℕ, Option, [], false, true, length, option_copied, IfOk, IfSome, IfNone, OnOk, OnErr};
 ghost use Rattle.wl_elem.specs.declared.lane.Lane.{Lane};
 ghost use Rattle.wl_elem.specs.Lanes.{lane_index, lane_count, IsLane};
 ghost use Rattle.wl_elem.specs.Links.{link_limit, has_link};
@@ -14,7 +14,7 @@ ghost use Rattle.wl_window.specs.Originating.{newly_answer};
 ghost use Rattle.wl_history.specs.declared.hand.Hand.{Hand};
 ghost use Rattle.wl_history.specs.declared.hand.Hand.TheVariants.{Reserve as HoldsReserve, Booking as HoldsBooking};
 ghost use Rattle.wl_history.specs.Hands.{hand_of};
-ghost use Rattle.wl_history.specs.Answers.{reserve_answer, book_answer};
+ghost use Rattle.wl_history.specs.Answers.{last_key, reserve_answer, book_answer};
 ghost use Rattle.wl_history.specs.Ends.{send_size, receive_size, is_set_up};
 ghost use Rattle.wl_history.specs.Plain.{IsPlain, FitsIn};
 ghost use Rattle.wl_history.specs.Words.{at, last_of};
@@ -29,7 +29,7 @@ use crate::links::{link_at, links_set_up};
 use crate::peek::{Peek, peek_frame};
 use std::alloc::Global;
 use std::marker::Model;
-use wl_elem::{Bytes, EndId, Lane, LinkId, LinkSet, Memory, Tid};
+use wl_elem::{Bytes, EndId, KeysSpent, Lane, LinkId, LinkSet, Memory, Tid};
 use wl_frame::{Sealer, decode_frame};
 use wl_history::{
     Ack, Arrival, EndStart, Hand, KeptWhy, Opened, Outcome, SequenceNumbers, Setup, an_end_keeps,
@@ -127,7 +127,7 @@ fn enter(booked: &mut Bookings, lane: &Lane, n: Numbers)
 }
 
 impl End {
-    ghost use Rattle.wl_history.specs.EndState.{EndState, IsEnd, lane_at, frames_on, started, after_queue, after_reserve, after_book, after_put, put_down, was_aired_at, hear_answer, after_hear, acked_by, after_ack};
+    ghost use Rattle.wl_history.specs.EndState.{EndState, IsEnd, lane_at, frames_on, started, after_queue, after_reserve, after_book, after_put, put_down, was_aired_at, hear_answer, after_hear, acked_by, after_ack, after_install, after_turn};
     ghost use Rattle.wl_end.specs.Parts.{frame_count};
     ghost use Rattle.wl_end.specs.Peeking.{IsPeek, PeekFits, IsBookingOf};
     ghost use Rattle.wl_history.specs.Answers.{put_of, aired_octets};
@@ -467,6 +467,32 @@ impl End {
             start,
             stored,
         })
+    }
+
+    /// Holds the next key, which is the newest then, and gives its number. `KeysSpent` exactly at key
+    /// 65,535; nothing changes then. It takes no memory.
+    pub fn install(&mut self) -> Result<u16, KeysSpent>
+        ensures spent { is_err result ≡ (self.old.setup.keys == last_key) }
+        ensures key { IfOk result (λ key. key ≡ self.old.setup.keys + 1) }
+        ensures after { IfOk result (λ key. self.new ≡ after_install (Outcome.Installed key) self.old) }
+        ensures unchanged { OnErr result (self.new ≡ self.old) }
+        ensures sound { IsEnd self.new }
+    {
+        an_end_keeps();
+        self.setup.keys.install()
+    }
+
+    /// Turns to the next key, whose packet numbers begin at 1, and gives its number. `KeysSpent` exactly
+    /// where key 65,535 is sent under; nothing changes then. It takes no memory.
+    pub fn turn(&mut self) -> Result<u16, KeysSpent>
+        ensures spent { is_err result ≡ (self.old.numbers.key == last_key) }
+        ensures key { IfOk result (λ key. key ≡ self.old.numbers.key + 1) }
+        ensures after { IfOk result (λ key. self.new ≡ after_turn (Outcome.Turned key) self.old) }
+        ensures unchanged { OnErr result (self.new ≡ self.old) }
+        ensures sound { IsEnd self.new }
+    {
+        an_end_keeps();
+        self.numbers.turn()
     }
 
     /// Takes an acknowledgement that the peer made. How many positions are done now that weren't.

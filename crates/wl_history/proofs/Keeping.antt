@@ -17,15 +17,16 @@ use Rattle.wl_history.specs.declared.ack.Ack.{Ack}
 use Rattle.wl_history.specs.declared.arrival.Arrival.{Arrival}
 use Rattle.wl_history.specs.declared.hand.Hand.{Hand}
 use Rattle.wl_history.specs.declared.hand.Hand.TheVariants.{Empty, Reserve, Booking}
+use Rattle.wl_history.specs.declared.outcome.Outcome.{Outcome}
 use Rattle.wl_history.specs.declared.outcome.Outcome.TheVariants as outcomes
 use Rattle.wl_history.specs.Hands.{hand_of, set_hand, reserves, bit}
 use Rattle.wl_history.specs.Ends.{receive_size}
 use Rattle.wl_history.specs.Sender.{IsSender, IsGapless, Regranted}
 use Rattle.wl_history.specs.Words.{body_at}
-use Rattle.wl_history.specs.EndState.{EndState, LaneState, IsEnd, lane_at, frames_on, no_lane, with_lane, with_hand, with_frame, aired_at, let_up, after_queue, after_reserve, after_book, after_arrived, after_hear, after_acked, after_ack, acked_by}
+use Rattle.wl_history.specs.EndState.{EndState, LaneState, IsEnd, lane_at, frames_on, no_lane, with_lane, with_hand, with_frame, aired_at, let_up, after_queue, after_reserve, after_book, after_arrived, after_hear, after_acked, after_ack, after_install, after_turn, acked_by}
 use Rattle.wl_history.proofs.Hands.{count_set}
 use Rattle.wl_history.specs.Below.{NumberLaws, WindowLaws}
-use Rattle.wl_history.proofs.Sender.{lane_within, still_sender, emptied, reserving}
+use Rattle.wl_history.proofs.Sender.{lane_within, still_sender, turned_sender, emptied, reserving}
 use Rattle.wl_history.proofs.Booking.{booking, booked_next}
 
 -- ---- lanes, one of which changed
@@ -208,6 +209,25 @@ aired_so s thread lane n link octets is held =
     let sound : IsEnd (with_frame link octets lane n s) =
     lane_stays s k (record (lane_at s k) { aired = aired_at n.pos (lane_at s k).aired }) s.last (slice_set s.frames link (frames_on s link ++ octets ∷ [])) is (is.short k) refl (omega arith) (keeps_itself (lane_at s k).sending) is.nine_pairs (length-set s.frames link (frames_on s link ++ octets ∷ []) ∙ is.fifteen) in
     puts_down (with_frame link octets lane n s) thread lane n sound held
+
+-- ---- keys
+
+pub install_kept : (s : EndState) (o : Outcome) → IsEnd s → IsEnd (after_install o s)
+install_kept s (outcomes.Installed key) is = record { nine = is.nine; nine_pairs = is.nine_pairs; fifteen = is.fifteen; short = is.short; sender = is.sender; gapless = is.gapless; sized = record { some_window = is.sized.some_window; window_limit = is.sized.window_limit }; roomy = is.roomy }
+install_kept s other is = is
+
+pub turn_kept : (s : EndState) (o : Outcome) → IsEnd s → IsEnd (after_turn o s)
+turn_kept s (outcomes.Turned key) is = record {
+  nine = is.nine;
+  nine_pairs = is.nine_pairs;
+  fifteen = is.fifteen;
+  short = is.short;
+  sender = turned_sender (λ l. (lane_at s l).queue) s.hands s.numbers s.booked (λ l. (lane_at s l).sending) is.sender;
+  gapless = record { next = is.gapless.next };
+  sized = is.sized;
+  roomy = is.roomy;
+}
+turn_kept s other is = is
 
 -- ---- hearing and acknowledging
 

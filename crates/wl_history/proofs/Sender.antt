@@ -1,11 +1,13 @@
 -- What each command does to an end that sends.
-use Rattle.std.proofs.Common.{◌≡◌, ℕ, ◌+◌, ◌<◌, ◌≤◌, List, length, sym, ap, subst, ◌∙◌, arith, inl, inr}
-use Rattle.std.proofs.lemmas.Bool.{cases_eq}
+use Rattle.std.proofs.Common.{◌≡◌, ℕ, ◌+◌, ◌<◌, ◌≤◌, false, List, length, sym, ap, subst, ◌∙◌, arith, inl, inr}
+use Rattle.std.specs.Prelude.{◌==◌, ◌&&◌, nat_lt}
+use Rattle.std.proofs.lemmas.Bool.{cases_eq, cases_lt, both_ways, or_left, or_from, and_left, le-ltb, lt-ltb, ne_eqb}
+use Rattle.wl_elem.specs.Pairs.{pair_below}
 use Rattle.wl_elem.specs.declared.lane.Lane.{Lane}
 use Rattle.wl_elem.specs.declared.lane.Lane.TheVariants as lanes
 use Rattle.wl_elem.specs.Lanes.{lane_index, lane_count, at_place, IsLane}
 use Rattle.wl_number.specs.declared.numbers.Numbers.{Numbers}
-use Rattle.wl_number.specs.NumberObject.{NumberObject}
+use Rattle.wl_number.specs.NumberObject.{NumberObject, turned}
 use Rattle.wl_window.specs.Originating.{Sending, Keeps, is_booked, booked_count}
 use Rattle.wl_history.specs.declared.hand.Hand.{Hand}
 use Rattle.wl_history.specs.declared.hand.Hand.TheVariants as hand
@@ -16,6 +18,14 @@ use Rattle.wl_history.proofs.Hands.{hand_set, hand_kept, count_set}
 pub lane_within : (lane : Lane) → IsLane lane → lane_index lane < lane_count
 lane_within (lanes.Tid tid) h = omega arith
 lane_within lanes.Management h = omega arith
+
+-- what isn't above a pair isn't above one of the next key
+above_all : (key last k pn : ℕ) → pair_below key last k pn ≡ false → pair_below (key + 1) 0 k pn ≡ false
+above_all key last k pn is =
+    elim (cases_lt key k) [
+      | inl lt ↦ absurd (both_ways (pair_below key last k pn) is (or_left (nat_lt key k) (key == k && nat_lt last pn) (lt-ltb key k lt)))
+      | inr le ↦ or_from (nat_lt (key + 1) k) (key + 1 == k && nat_lt 0 pn) (le-ltb (key + 1) k (omega (arith, le))) (and_left (key + 1 == k) (nat_lt 0 pn) (ne_eqb (key + 1) k (λ e. omega (arith, e, le))))
+    ]
 
 -- queues that grow, and windows that keep what is booked
 pub still_sender : (queue queue' : ℕ → List (List ℕ)) (hands : List Hand) (o : NumberObject) (lanes : List (List Numbers)) (sending sending' : ℕ → Sending)
@@ -31,6 +41,24 @@ still_sender queue queue' hands o lanes sending sending' more same s = record {
   numbered = λ l. (same l).counts ∙ s.numbered l;
   counted = λ l. (same l).granted ∙ s.counted l;
   within = λ l. omega (arith, (same l).granted, s.within l, more l);
+  held = s.held;
+  of_lanes = s.of_lanes;
+}
+
+-- a turn to the next key, under which no packet number is used
+pub turned_sender : (queue : ℕ → List (List ℕ)) (hands : List Hand) (o : NumberObject) (lanes : List (List Numbers)) (sending : ℕ → Sending)
+    → IsSender queue hands o lanes sending → IsSender queue hands (turned o) lanes sending
+turned_sender queue hands o lanes sending s = record {
+  nine = s.nine;
+  nine_positions = s.nine_positions;
+  rule = s.rule;
+  last = λ place n is. above_all o.key o.last n.key n.pn (s.last place n is);
+  above = s.above;
+  queued = s.queued;
+  marked = s.marked;
+  numbered = s.numbered;
+  counted = s.counted;
+  within = s.within;
   held = s.held;
   of_lanes = s.of_lanes;
 }

@@ -32,10 +32,10 @@ use Rattle.wl_history.specs.declared.start.Start.{Start}
 use Rattle.wl_history.specs.declared.step.Step.{Step}
 use Rattle.wl_history.specs.Ends.{IsStart, start_of, receive_size, send_size}
 use Rattle.wl_history.specs.Hands.{hand_of}
-use Rattle.wl_history.specs.Words.{setup_of, queued, body_at, booked, booked_with, send_key, key_booked, Airing, airings, airings_put, Receiving, receiving, received, taken}
-use Rattle.wl_history.specs.Answers.{reserve_answer, book_answer, put_of, airing_of, aired_octets}
+use Rattle.wl_history.specs.Words.{setup_of, queued, body_at, booked, booked_with, send_key, key_booked, Airing, airings, airings_put, Receiving, receiving, received, taken, installed, key_turned}
+use Rattle.wl_history.specs.Answers.{reserve_answer, book_answer, put_of, airing_of, aired_octets, turn_answer}
 use Rattle.wl_history.specs.Hearing.{octets_of, Closed, Judged, Answered, ToOpen}
-use Rattle.wl_history.specs.EndState.{EndState, LaneState, IsEnd, lane_at, no_lane, no_lanes, no_management, no_frames, started, was_aired_at, with_frame, let_up, with_moved, put_down, after_queue, after_reserve, after_book, after_put, after_arrived, after_hear, after_acked, after_taken, acked_by, arrival_of, after_heard, hear_arrived, hear_answer}
+use Rattle.wl_history.specs.EndState.{EndState, LaneState, IsEnd, lane_at, no_lane, no_lanes, no_management, no_frames, started, was_aired_at, with_frame, let_up, with_moved, put_down, after_queue, after_reserve, after_book, after_put, after_arrived, after_hear, after_acked, after_taken, acked_by, arrival_of, after_heard, hear_arrived, hear_answer, after_install, after_turn}
 use Rattle.wl_history.specs.AirState.{AirState, end_of, with_end, with_acks, ack_named, octets_named, begun, after, state_of}
 use Rattle.wl_history.specs.Plain.{IsPlain}
 use Rattle.wl_history.specs.Legal.{Fits, IsAnswer, Legal, HeardIf, judged_at, judged_answer, opened_answer, booking_found}
@@ -45,8 +45,8 @@ use Rattle.wl_history.specs.Stands.{LaneTells, Tells, EndStands}
 use Rattle.wl_history.proofs.Lanes.{same_list, no_member}
 use Rattle.wl_history.specs.Below.{NumberLaws, WindowLaws}
 use Rattle.wl_history.proofs.Sender.{lane_within}
-use Rattle.wl_history.proofs.Keeping.{queue_kept, reserve_kept, given_back, booked_so, puts_down, aired_so, hear_kept, ack_kept}
-use Rattle.wl_history.proofs.Telling.{queue_tells, sending_tells, booked_tells, down_tells, framed_tells, moved_tells}
+use Rattle.wl_history.proofs.Keeping.{queue_kept, reserve_kept, given_back, booked_so, puts_down, aired_so, hear_kept, ack_kept, install_kept, turn_kept}
+use Rattle.wl_history.proofs.Telling.{queue_tells, sending_tells, booked_tells, down_tells, framed_tells, moved_tells, install_tells, turn_tells}
 use Rattle.wl_history.proofs.Growing.{IsBooking, contains_within, booking_queued, booking_booked, Aired, aired_still, aired_more}
 use Rattle.wl_history.proofs.Receiving.{Trans, Got, got_taken, got_still}
 use Rattle.wl_history.proofs.Cases.{reserve_cases, book_cases, put_cases, plain_answer, found_there}
@@ -483,6 +483,30 @@ module _ (laws : NumberLaws) (windows : WindowLaws) (trans : Trans) (text : Seal
       got = sound.got;
     }
 
+  -- ---- keys
+
+  module _ (thread : ℕ) (end : EndId) (outcome : Outcome) where
+    sound_install : Sound text start (after text thread (commands.Install end) outcome a) (step_of thread (commands.Install end) outcome ∷ before)
+    sound_install = record {
+      ends = by_end (λ end e b s. IsEnd s) (λ x. after_install outcome (end_of a x)) (λ x. install_kept (end_of a x) outcome (sound.ends x)) (λ x y. sound.ends y) end;
+      told = by_end (λ end e b s. Tells text (start_of start e) e s (queues e) (booked e before) (airings e before) (gots e) (key_of e) (if b then installed outcome (setup_at e) else setup_at e)) (λ x. after_install outcome (end_of a x))
+          (λ x. install_tells text (start_of start x) x (end_of a x) (queues x) (booked x before) (airings x before) (gots x) (key_of x) (setup_at x) (sound.ends x) (sound.told x) outcome) (λ x y. sound.told y) end;
+      aired = sound.aired;
+      got = sound.got;
+    }
+
+    abbrev Turns : EndId → Type 0
+    Turns x = outcome ≡ turn_answer (end_of a x).numbers
+
+    sound_turn : IsAnswer text thread (commands.Turn end) a outcome → Sound text start (after text thread (commands.Turn end) outcome a) (step_of thread (commands.Turn end) outcome ∷ before)
+    sound_turn is = record {
+      ends = by_end (λ end e b s. IsEnd s) (λ x. after_turn outcome (end_of a x)) (λ x. turn_kept (end_of a x) outcome (sound.ends x)) (λ x y. sound.ends y) end;
+      told = λ e. by_end (λ end e b s. Turns end → Told e s (queues e) (booked e before) (airings e before) (gots e) (if b then key_turned outcome (key_of e) else key_of e)) (λ x. after_turn outcome (end_of a x))
+          (λ x own. turn_tells text (start_of start x) x (end_of a x) (queues x) (booked x before) (airings x before) (gots x) (key_of x) (setup_at x) (sound.ends x) (sound.told x) outcome own) (λ x y own. sound.told y) end e is;
+      aired = sound.aired;
+      got = sound.got;
+    }
+
   pub sound_then : (thread : ℕ) (command : Command) (outcome : Outcome) → Fits start command → IsAnswer text thread command a outcome → Sound text start (after text thread command outcome a) (step_of thread command outcome ∷ before)
   sound_then thread (commands.Queue end tid body) outcome fits is = sound_queue thread end tid body outcome fits
   sound_then thread (commands.Reserve end lane) outcome fits is = sound_reserve thread end lane outcome fits is
@@ -491,6 +515,8 @@ module _ (laws : NumberLaws) (windows : WindowLaws) (trans : Trans) (text : Seal
   sound_then thread (commands.Deliver end link nth) outcome fits is = sound_deliver thread end link nth outcome is
   sound_then thread (commands.AckOut end lane) outcome fits is = sound_ack_out thread end lane outcome
   sound_then thread (commands.AckIn end nth) outcome fits is = sound_ack_in thread end nth outcome
+  sound_then thread (commands.Install end) outcome fits is = sound_install thread end outcome
+  sound_then thread (commands.Turn end) outcome fits is = sound_turn thread end outcome is
 
 pub legal_start : (text : Sealing) (start : Start) (steps : List Step) → Legal text start steps → IsStart start
 legal_start text start [] legal = legal

@@ -1,5 +1,5 @@
 -- What each call of an end leaves, in the words of the history.
-use Rattle.std.proofs.Common.{◌≡◌, ◌≢◌, ℕ, zero, suc, ◌<◌, Bool, true, false, List, [], ◌∷◌, ◌++◌, length, get_or, set, Option, Some, None, refl, sym, ap, subst, ◌∙◌, arith, eq-eqb, inl, inr, append_assoc}
+use Rattle.std.proofs.Common.{◌≡◌, ◌+◌, ◌≢◌, ℕ, zero, suc, ◌<◌, Bool, true, false, List, [], ◌∷◌, ◌++◌, length, get_or, set, Option, Some, None, refl, sym, ap, subst, ◌∙◌, arith, eq-eqb, inl, inr, append_assoc}
 use Rattle.std.specs.Prelude.{max, if◌then◌else◌, ◌==◌, ◌&&◌, ◌||◌}
 use Rattle.std.proofs.lemmas.Bool.{ne_eqb, cases_eq}
 use Rattle.std.proofs.lemmas.List.{append-nil}
@@ -18,13 +18,15 @@ use Rattle.wl_window.specs.Originating.{Sending, with_booked}
 use Rattle.wl_history.specs.declared.arrival.Arrival.{Arrival}
 use Rattle.wl_history.specs.declared.hand.Hand.{Hand}
 use Rattle.wl_history.specs.declared.hand.Hand.TheVariants as hand
+use Rattle.wl_history.specs.declared.outcome.Outcome.{Outcome}
 use Rattle.wl_history.specs.declared.outcome.Outcome.TheVariants as outcomes
+use Rattle.wl_history.specs.Answers.{last_key, turn_answer}
 use Rattle.wl_history.specs.declared.setup.Setup.{Setup}
 use Rattle.wl_history.specs.declared.start.EndStart.{EndStart}
 use Rattle.wl_history.specs.Ends.{receive_size}
-use Rattle.wl_history.specs.Words.{body_at, Airing, airings_on, was_aired, Receiving, last_pair, is_new, release, release_all, taken}
+use Rattle.wl_history.specs.Words.{body_at, installed, key_turned, Airing, airings_on, was_aired, Receiving, last_pair, is_new, release, release_all, taken}
 use Rattle.wl_history.specs.Hearing.{octets_of}
-use Rattle.wl_history.specs.EndState.{EndState, IsEnd, lane_at, no_lane, frames_on, with_lane, with_frame, put_down, was_aired_at, aired_at, LetUp, pair_of, before_it, let_up, with_moved, after_queue, after_book}
+use Rattle.wl_history.specs.EndState.{EndState, IsEnd, lane_at, no_lane, frames_on, with_lane, with_frame, put_down, was_aired_at, aired_at, LetUp, pair_of, before_it, let_up, with_moved, after_queue, after_book, after_install, after_turn}
 use Rattle.wl_history.specs.Stands.{positions_of, octets_all, LaneTells, Tells}
 use Rattle.wl_history.proofs.Keeping.{any_place, set_place, at_own_place}
 
@@ -113,6 +115,11 @@ up_alike (a ∷ up) released = up_by (is_new a.numbers released) a up released r
 
 -- ---- each call
 
+-- the key that is turned to
+turned_key : (b : Bool) (key new : ℕ) → outcomes.Turned new ≡ (if b then outcomes.KeysSpent else outcomes.Turned (key + 1)) → new ≡ key + 1
+turned_key true key new is = absurd (cc is)
+turned_key false key new is = cc is
+
 -- the hands tell nothing of it
 pub down_tells : (text : Sealing) (start : EndStart) (e : EndId) (s : EndState) (queue : ℕ → List (List ℕ)) (bookings : List (List Numbers)) (aired : List Airing) (got : ℕ → Receiving) (key : ℕ) (setup : Setup)
     → Tells text start e s queue bookings aired got key setup → (thread : ℕ) (held : Hand) → Tells text start e (put_down thread held s) queue bookings aired got key setup
@@ -175,6 +182,14 @@ module _ (text : Sealing) (start : EndStart) (e : EndId) (s : EndState) (queue :
     last = h.last;
     frames = h.frames;
   }
+
+  pub install_tells : (o : Outcome) → Tells text start e (after_install o s) queue bookings aired got key (installed o setup)
+  install_tells (outcomes.Installed new) = record { start_is = h.start_is; setup_is = ap (λ (x : Setup). let t : Setup = record x { keys = new } in t) h.setup_is; key_is = h.key_is; lanes = h.lanes; booked_are = h.booked_are; last = h.last; frames = h.frames }
+  install_tells other = h
+
+  pub turn_tells : (o : Outcome) → o ≡ turn_answer s.numbers → Tells text start e (after_turn o s) queue bookings aired got (key_turned o key) setup
+  turn_tells (outcomes.Turned new) is = record { start_is = h.start_is; setup_is = h.setup_is; key_is = omega (arith, h.key_is, turned_key (s.numbers.key == last_key) s.numbers.key new is); lanes = h.lanes; booked_are = h.booked_are; last = h.last; frames = h.frames }
+  turn_tells other is = h
 
   -- ---- a frame more
 

@@ -1,5 +1,5 @@
 -- Two ends and what they acknowledged; what each command makes of them, and where a history leaves them.
-use Rattle.std.specs.Prelude.{ℕ, List, [], ◌∷◌, Option}
+use Rattle.std.specs.Prelude.{ℕ, List, [], ◌∷◌, Option, Some, None}
 use Rattle.wl_elem.specs.declared.lane.EndId.{EndId}
 use Rattle.wl_elem.specs.declared.lane.EndId.TheVariants.{Ap, Sta}
 use Rattle.wl_elem.specs.Lanes.{peer_of}
@@ -12,7 +12,7 @@ use Rattle.wl_history.specs.declared.start.Start.{Start}
 use Rattle.wl_history.specs.declared.step.Step.{Step}
 use Rattle.wl_history.specs.Hands.{hand_of}
 use Rattle.wl_history.specs.Words.{nth_of}
-use Rattle.wl_history.specs.EndState.{EndState, started, frames_on, after_queue, after_reserve, after_book, after_put, after_taken, after_heard}
+use Rattle.wl_history.specs.EndState.{EndState, started, frames_on, after_queue, after_reserve, after_book, after_put, after_taken, after_heard, after_install, after_turn}
 use Rattle.wl_history.specs.Answers.{aired_octets, acks_made}
 
 pub record AirState : Type 0 where
@@ -46,6 +46,11 @@ ack_named a end nth = nth_of nth (acks_of a (peer_of end))
 abbrev pub octets_named : AirState → EndId → ℕ → Option ℕ → Option (List ℕ)
 octets_named a end link nth = nth_of nth (frames_on (end_of a (peer_of end)) link)
 
+-- the end that hears a frame by a command, where it hears one
+abbrev pub hearer : Command → Option EndId
+hearer (commands.Deliver end link nth) = Some end
+hearer other = None
+
 -- two ends that did nothing yet
 abbrev pub begun : Start → AirState
 begun start = record { ap = started start.ap; sta = started start.sta; ap_acks = []; sta_acks = [] }
@@ -59,6 +64,8 @@ after text thread (commands.Put end link) outcome a = with_end end (after_put th
 after text thread (commands.Deliver end link nth) outcome a = with_end end (after_heard (end_of a (peer_of end)) outcome (end_of a end)) a
 after text thread (commands.AckOut end lane) outcome a = with_acks end (acks_made lane outcome (acks_of a end)) a
 after text thread (commands.AckIn end nth) outcome a = with_end end (after_taken (ack_named a end nth) (end_of a end)) a
+after text thread (commands.Install end) outcome a = with_end end (after_install outcome (end_of a end)) a
+after text thread (commands.Turn end) outcome a = with_end end (after_turn outcome (end_of a end)) a
 
 -- where a history leaves two ends that started so
 unfoldable pub state_of : Sealing → Start → List Step → AirState

@@ -1,5 +1,5 @@
 -- What each command is answered, from the states before it, and what a put airs.
-use Rattle.std.specs.Prelude.{ℕ, ◌%◌, if◌then◌else◌, Bool, true, false, List, [], ◌∷◌, ◌++◌, Option, Some, None, Result, Ok, Err}
+use Rattle.std.specs.Prelude.{ℕ, ◌+◌, ◌==◌, ◌%◌, if◌then◌else◌, Bool, true, false, List, [], ◌∷◌, ◌++◌, Option, Some, None, Result, Ok, Err}
 use Rattle.wl_elem.specs.declared.lane.Lane.{Lane}
 use Rattle.wl_elem.specs.Lanes.{lane_index}
 use Rattle.wl_frame.specs.Sealing.{Sealing}
@@ -20,6 +20,10 @@ use Rattle.wl_history.specs.Ends.{is_set_up}
 use Rattle.wl_history.specs.Words.{Airing, body_at}
 use Rattle.wl_history.specs.Hearing.{octets_of}
 use Rattle.wl_history.specs.EndState.{LaneState, EndState, lane_at, was_aired_at, acked_by}
+
+-- key numbers have 16 bits
+abbrev pub last_key : ℕ
+last_key = 65535
 
 abbrev pub is_empty : Hand → Bool
 is_empty hand.Empty = true
@@ -73,6 +77,14 @@ ack_out_answer w = outcomes.Acked (w.start % 4096) (stored_numbers w.slots)
 abbrev pub acks_made : Lane → Outcome → List Ack → List Ack
 acks_made lane (outcomes.Acked start stored) old = old ++ record { lane = lane; start = start; stored = stored } ∷ []
 acks_made lane other old = old
+
+-- the next key is installed where this is the newest
+abbrev pub install_answer : ℕ → Outcome
+install_answer newest = if newest == last_key then outcomes.KeysSpent else outcomes.Installed (newest + 1)
+
+-- a turn of these numbers' key
+abbrev pub turn_answer : NumberObject → Outcome
+turn_answer numbers = if numbers.key == last_key then outcomes.KeysSpent else outcomes.Turned (numbers.key + 1)
 
 abbrev pub taken_answer : Option Acked → Outcome
 taken_answer None = outcomes.OldAck

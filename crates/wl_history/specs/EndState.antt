@@ -4,7 +4,7 @@ use Rattle.wl_elem.specs.declared.lane.Lane.{Lane}
 use Rattle.wl_elem.specs.Element.{msdu_limit}
 use Rattle.wl_elem.specs.Lanes.{lane_index, lane_count}
 use Rattle.wl_number.specs.declared.numbers.Numbers.{Numbers}
-use Rattle.wl_number.specs.NumberObject.{NumberObject, opened, after_draw}
+use Rattle.wl_number.specs.NumberObject.{NumberObject, opened, after_draw, turned}
 use Rattle.wl_number.specs.Bookings.{no_bookings}
 use Rattle.wl_number.specs.OrderRule.{with_booking}
 use Rattle.wl_replay.specs.declared.replay.Pair.{Pair}
@@ -205,6 +205,16 @@ after_hear lane number size a s =
     if is_above (last_of s.last lane) a.numbers.key a.numbers.pn
     then after_arrived lane (arrived (lane_at s (lane_index lane)).window number size a) s
     else s
+
+-- the next key is held
+abbrev pub after_install : Outcome → EndState → EndState
+after_install (outcomes.Installed key) s = record s { setup = record s.setup { keys = key } }
+after_install other s = s
+
+-- the next key is sent under
+abbrev pub after_turn : Outcome → EndState → EndState
+after_turn (outcomes.Turned key) s = record s { numbers = turned s.numbers }
+after_turn other s = s
 
 abbrev pub acked_by : Ack → EndState → Option Acked
 acked_by ack s = acked (lane_at s (lane_index ack.lane)).sending ack.start ack.stored

@@ -20,7 +20,7 @@ use Rattle.wl_history.specs.declared.step.Step.{Step}
 use Rattle.wl_history.specs.Ends.{IsStart, start_of, is_link, send_size, receive_size}
 use Rattle.wl_history.specs.Hands.{hand_of}
 use Rattle.wl_history.specs.Words.{body_at}
-use Rattle.wl_history.specs.Answers.{reserve_answer, book_answer, put_of, ack_out_answer, ack_answer}
+use Rattle.wl_history.specs.Answers.{reserve_answer, book_answer, put_of, ack_out_answer, ack_answer, install_answer, turn_answer}
 use Rattle.wl_history.specs.Hearing.{Closed, Judged, Answered, ToOpen, judged, opened_under, sealed_under, text_of, booking_of}
 use Rattle.wl_history.specs.EndState.{EndState, lane_at, arrival_of, hear_answer}
 use Rattle.wl_history.specs.AirState.{AirState, end_of, octets_named, ack_named, state_of}
@@ -66,6 +66,8 @@ IsAnswer text thread (commands.Put end link) a outcome = outcome ≡ put_of link
 IsAnswer text thread (commands.Deliver end link nth) a outcome = HeardIf text (end_of a end) (end_of a (peer_of end)) link (octets_named a end link nth) outcome
 IsAnswer text thread (commands.AckOut end lane) a outcome = outcome ≡ ack_out_answer (lane_at (end_of a end) (lane_index lane)).window
 IsAnswer text thread (commands.AckIn end nth) a outcome = outcome ≡ ack_answer (ack_named a end nth) (end_of a end)
+IsAnswer text thread (commands.Install end) a outcome = outcome ≡ install_answer (end_of a end).setup.keys
+IsAnswer text thread (commands.Turn end) a outcome = outcome ≡ turn_answer (end_of a end).numbers
 
 -- ---- forgeries
 

@@ -51,22 +51,32 @@ abbrev pub booked : EndId → List Step → List (List Numbers)
 booked e [] = no_bookings
 booked e (step ∷ before) = booked_after e step.command step.outcome (booked e before)
 
--- Send key: the greatest of the first key and the keys booked.
+-- Send key: the greatest of the first key, the keys booked and those turned to.
 abbrev pub key_booked : Outcome → ℕ → ℕ
 key_booked (outcomes.Booked lane n) old = max old n.key
 key_booked other old = old
 
+abbrev pub key_turned : Outcome → ℕ → ℕ
+key_turned (outcomes.Turned key) old = max old key
+key_turned other old = old
+
 abbrev pub key_after : EndId → Command → Outcome → ℕ → ℕ
 key_after e (commands.Book end) outcome old = if same_end end e then key_booked outcome old else old
+key_after e (commands.Turn end) outcome old = if same_end end e then key_turned outcome old else old
 key_after e other outcome old = old
 
 abbrev pub send_key : EndStart → EndId → List Step → ℕ
 send_key start e [] = start.first_key
 send_key start e (step ∷ before) = key_after e step.command step.outcome (send_key start e before)
 
--- Setup: the links that an end has set up, its sizes and the keys that it holds. No command changes them yet.
+-- Setup: the links that an end has set up, its sizes and the keys that it holds. Only the keys change.
+abbrev pub installed : Outcome → Setup → Setup
+installed (outcomes.Installed key) old = record old { keys = key }
+installed other old = old
+
 abbrev pub setup_after : EndId → Command → Outcome → Setup → Setup
-setup_after e command outcome old = old
+setup_after e (commands.Install end) outcome old = if same_end end e then installed outcome old else old
+setup_after e other outcome old = old
 
 abbrev pub setup_of : EndStart → EndId → List Step → Setup
 setup_of start e [] = setup_begun start

@@ -1,6 +1,7 @@
 //! Commands.
 
 ghost use Rattle.std.specs.Prelude.{◌≡◌, IfOk};
+ghost use Rattle.wl_history.specs.Legal.{InRanges, InWord};
 
 use std::alloc::Global;
 use wl_elem::{Bytes, EndId, Lane, LinkId, Memory, Tid};
@@ -59,9 +60,41 @@ pub enum Command {
         /// Which, counted from 0; the latest where there is none.
         nth: Option<u32>,
     },
+    /// Hold the next key: frames under it open from now on, and under the one before it.
+    Install {
+        /// The receiver.
+        end: EndId,
+    },
+    /// Send under the next key, whose packet numbers begin at 1.
+    Turn {
+        /// The sender.
+        end: EndId,
+    },
 }
 
+/// A number is one of 32 bits.
+fn test_number(nth: Option<u32>)
+    ensures { InWord nth }
+{}
+
 impl Command {
+    /// Tells that the links that it names have IDs below 15, and the numbers 32 bits, as their types say.
+    pub fn test(&self)
+        ensures { InRanges self.now }
+    {
+        match self {
+            Command::Put { link, .. } => {
+                link.get();
+            }
+            Command::Deliver { link, nth, .. } => {
+                link.get();
+                test_number(*nth);
+            }
+            Command::AckIn { nth, .. } => test_number(*nth),
+            _ => (),
+        }
+    }
+
     /// The same command again.
     pub fn copy(&self, alloc: Global) -> Result<Command, Memory>
         ensures { IfOk result (λ c. c ≡ self.now) }
@@ -94,6 +127,8 @@ impl Command {
                 end: *end,
                 nth: *nth,
             },
+            Command::Install { end } => Command::Install { end: *end },
+            Command::Turn { end } => Command::Turn { end: *end },
         })
     }
 }

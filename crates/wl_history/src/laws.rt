@@ -25,7 +25,7 @@ ghost use Rattle.wl_history.specs.declared.step.Step.{Step};
 ghost use Rattle.wl_history.specs.Below.{NumberLaws, WindowLaws};
 ghost use Rattle.wl_history.specs.Hands.{hand_of};
 ghost use Rattle.wl_history.specs.Hearing.{Answered, Closed, IsClosed, ToOpen, judged};
-ghost use Rattle.wl_history.specs.EndState.{EndState, IsEnd, lane_at, started, with_hand, with_frame, after_queue, after_reserve, after_book, after_arrived, after_ack};
+ghost use Rattle.wl_history.specs.EndState.{EndState, IsEnd, lane_at, started, with_hand, with_frame, after_queue, after_reserve, after_book, after_arrived, after_ack, after_install, after_turn};
 ghost use Rattle.wl_history.specs.AirState.{AirState, end_of, state_of};
 ghost use Rattle.wl_history.specs.Plain.{IsPlain};
 ghost use Rattle.wl_history.specs.Legal.{IsAnswer, Legal};
@@ -64,6 +64,8 @@ pub fn an_end_keeps()
     ensures air { (s : EndState) (thread : ℕ) (lane : Lane) (n : Numbers) (link : ℕ) (octets : List ℕ) → IsEnd s → hand_of s.hands thread ≡ Booking lane n → IsEnd (with_hand thread Empty (with_frame link octets lane n s)) }
     ensures hear { (s : EndState) (lane : Lane) (come : Arrived Arrival) → IsEnd s → IsEnd (after_arrived lane come s) }
     ensures ack { (ack : Ack) (s : EndState) → IsEnd s → IsEnd (after_ack ack s) }
+    ensures install { (o : Outcome) (s : EndState) → IsEnd s → IsEnd (after_install o s) }
+    ensures turn { (o : Outcome) (s : EndState) → IsEnd s → IsEnd (after_turn o s) }
     ensures start { (start : EndStart) → 1 ≤ start.window → start.window ≤ 256 → IsEnd (started start) }
 {
     laws_below()

@@ -112,6 +112,18 @@ pub enum Outcome {
         /// How many positions are done since.
         count: u32,
     },
+    /// The next key is held.
+    Installed {
+        /// Its number.
+        key: u16,
+    },
+    /// The next key is the one that is sent under.
+    Turned {
+        /// Its number.
+        key: u16,
+    },
+    /// The key is the last one, 65,535: there is none after it.
+    KeysSpent,
 }
 
 impl Outcome {
@@ -163,6 +175,9 @@ impl Outcome {
             Outcome::Acked { .. } => unreachable!(),
             Outcome::OldAck => Outcome::OldAck,
             Outcome::Done { count } => Outcome::Done { count: *count },
+            Outcome::Installed { key } => Outcome::Installed { key: *key },
+            Outcome::Turned { key } => Outcome::Turned { key: *key },
+            Outcome::KeysSpent => Outcome::KeysSpent,
         }
     }
 

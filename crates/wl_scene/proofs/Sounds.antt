@@ -22,7 +22,7 @@ use Rattle.wl_scene.specs.declared.scenario.Scenario.{Scenario}
 use Rattle.wl_scene.specs.declared.fault.SceneFault.{SceneFault}
 use Rattle.wl_scene.specs.declared.fault.SceneFault.TheVariants.{Refused, Memory}
 use Rattle.wl_scene.specs.Answering.{AnswersOnly}
-use Rattle.wl_scene.specs.Commands.{lane_0, sized, body_at, nth_at, queue_of, send_of, reserve_of, book_of, put_of, deliver_of, ack_out_of, ack_in_of, named, any_named, command_of, before_others, items_of}
+use Rattle.wl_scene.specs.Commands.{lane_0, sized, body_at, nth_at, queue_of, send_of, reserve_of, book_of, put_of, deliver_of, ack_out_of, ack_in_of, named, any_named, command_of, before_others, items_of, end_at, install_of, turn_of}
 use Rattle.wl_scene.specs.Members.{text_at, hex_at}
 use Rattle.wl_scene.specs.Scene.{end_start, scripted, with_commands, command_limit}
 use Rattle.wl_scene.specs.Scene as scene
@@ -84,7 +84,9 @@ named_fits start link name d p has =
     (either (bytes_eq name (codes "put")) (put_of link d) _ p P (row start _ (Do (commands.Put Ap link)) p (has Ap))
     (either (bytes_eq name (codes "deliver")) (deliver_of link d) _ p P (row_with start _ (λ (nth : Option ℕ). Do (commands.Deliver Sta link nth)) (nth_at d) p (λ nth found. has Sta))
     (either (bytes_eq name (codes "ack_out")) (ack_out_of d) _ p P (row start _ (Do (commands.AckOut Sta lane_0)) p tid_0_fits)
-    (either (bytes_eq name (codes "ack_in")) (ack_in_of d) None p P (row_with start _ (λ (nth : Option ℕ). Do (commands.AckIn Ap nth)) (nth_at d) p (λ nth found. tt)) (never p P)))))))
+    (either (bytes_eq name (codes "ack_in")) (ack_in_of d) _ p P (row_with start _ (λ (nth : Option ℕ). Do (commands.AckIn Ap nth)) (nth_at d) p (λ nth found. tt))
+    (either (bytes_eq name (codes "install")) (install_of d) _ p P (row_with start _ (λ (end : EndId). Do (commands.Install end)) (end_at d) p (λ end found. tt))
+    (either (bytes_eq name (codes "turn")) (turn_of d) None p P (row_with start _ (λ (end : EndId). Do (commands.Turn end)) (end_at d) p (λ end found. tt)) (never p P)))))))))
 
 plain_fits : (start : Start) (link : ℕ) (d : Data) (p : Plain) → HasLink start link → command_of link d ≡ Some p → PlainFits start p
 unfolding command_of

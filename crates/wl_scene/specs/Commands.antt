@@ -10,11 +10,14 @@
 -- | deliver | sta | link, nth or not               |
 -- | ack_out | sta | lane 0                         |
 -- | ack_in  | ap  | nth or not                     |
+-- | install | any |                                |
+-- | turn    | any |                                |
 --
 -- A body is hex text, `link` the scenario's link, and `nth` a number below 2^32.
 use Rattle.std.specs.Prelude.{ℕ, suc, ◌^◌, ◌&&◌, nat_le, if◌then◌else◌, List, [], ◌∷◌, length, Option, Some, None, option_and_then, option_map, Result, Ok, Err, bytes_eq, codes}
 use Rattle.serde_json.specs.Data.{Data, Items, no_items, item}
 use Rattle.serde_json.specs.Find.{get}
+use Rattle.wl_elem.specs.declared.lane.EndId.{EndId}
 use Rattle.wl_elem.specs.declared.lane.EndId.TheVariants.{Ap, Sta}
 use Rattle.wl_elem.specs.declared.lane.Lane.{Lane}
 use Rattle.wl_elem.specs.declared.lane.Lane.TheVariants.{Tid}
@@ -84,6 +87,19 @@ ack_in_of d =
     if has_only (codes "do" ∷ codes "end" ∷ codes "nth" ∷ []) d && has_text (codes "end") (codes "ap") d
     then option_map (λ nth. Do (commands.AckIn Ap nth)) (nth_at d) else None
 
+-- an end by its name
+abbrev pub end_named : List ℕ → Option EndId
+end_named name = if bytes_eq name (codes "ap") then Some Ap else if bytes_eq name (codes "sta") then Some Sta else None
+
+abbrev pub end_at : Data → Option EndId
+end_at d = option_and_then end_named (text_at (codes "end") d)
+
+abbrev pub install_of : Data → Option Plain
+install_of d = if has_only (codes "do" ∷ codes "end" ∷ []) d then option_map (λ end. Do (commands.Install end)) (end_at d) else None
+
+abbrev pub turn_of : Data → Option Plain
+turn_of d = if has_only (codes "do" ∷ codes "end" ∷ []) d then option_map (λ end. Do (commands.Turn end)) (end_at d) else None
+
 -- by its name, all but queue
 abbrev pub named : ℕ → List ℕ → Data → Option Plain
 named link name d =
@@ -94,6 +110,8 @@ named link name d =
     else if bytes_eq name (codes "deliver") then deliver_of link d
     else if bytes_eq name (codes "ack_out") then ack_out_of d
     else if bytes_eq name (codes "ack_in") then ack_in_of d
+    else if bytes_eq name (codes "install") then install_of d
+    else if bytes_eq name (codes "turn") then turn_of d
     else None
 
 abbrev pub any_named : ℕ → Data → List ℕ → Option Plain

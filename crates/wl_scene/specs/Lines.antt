@@ -54,6 +54,8 @@ command_name (commands.Put end link) = codes "put"
 command_name (commands.Deliver end link nth) = codes "deliver"
 command_name (commands.AckOut end lane) = codes "ack_out"
 command_name (commands.AckIn end nth) = codes "ack_in"
+command_name (commands.Install end) = codes "install"
+command_name (commands.Turn end) = codes "turn"
 
 -- what is shown of each command; of a body its size in octets
 abbrev pub command_members : Command → List Named
@@ -64,6 +66,8 @@ command_members (commands.Put end link) = end_member end ∷ link_member link �
 command_members (commands.Deliver end link nth) = end_member end ∷ link_member link ∷ (codes "nth", nth_data nth) ∷ []
 command_members (commands.AckOut end lane) = end_member end ∷ lane_member lane ∷ []
 command_members (commands.AckIn end nth) = end_member end ∷ (codes "nth", nth_data nth) ∷ []
+command_members (commands.Install end) = end_member end ∷ []
+command_members (commands.Turn end) = end_member end ∷ []
 
 abbrev pub answer_name : Outcome → List ℕ
 answer_name (outcomes.Queued pos) = codes "queued"
@@ -90,6 +94,9 @@ answer_name (outcomes.Stored lane number n up) = codes "stored"
 answer_name (outcomes.Acked start stored) = codes "acked"
 answer_name outcomes.OldAck = codes "oldack"
 answer_name (outcomes.Done count) = codes "done"
+answer_name (outcomes.Installed key) = codes "installed"
+answer_name (outcomes.Turned key) = codes "turned"
+answer_name outcomes.KeysSpent = codes "keysspent"
 
 -- the position, key number and packet number of a booking
 abbrev pub booking_members : Lane → Numbers → List Named
@@ -121,6 +128,9 @@ answer_members (outcomes.Stored lane number n up) = lane_member lane ∷ (codes 
 answer_members (outcomes.Acked start stored) = (codes "start", whole start) ∷ (codes "stored", array (wholes stored)) ∷ []
 answer_members outcomes.OldAck = []
 answer_members (outcomes.Done count) = (codes "count", whole count) ∷ []
+answer_members (outcomes.Installed key) = (codes "key", whole key) ∷ []
+answer_members (outcomes.Turned key) = (codes "key", whole key) ∷ []
+answer_members outcomes.KeysSpent = []
 
 -- A step: its thread, the command and the answer, each with its members.
 abbrev pub step_data : Step → Data

@@ -7,7 +7,7 @@ ghost use Rattle.wl_scene.specs.Answering.{Gives, Answers, AnswersOnly};
 ghost use Rattle.hex.specs.Hex.{decode_of};
 ghost use Rattle.std.specs.Result.{result_ok};
 ghost use Rattle.wl_scene.specs.Members.{hex_at, below, whole_of};
-ghost use Rattle.wl_scene.specs.Commands.{lane_0, sized, body_at, nth_from, nth_at, queue_of, send_of, reserve_of, book_of, put_of, deliver_of, ack_out_of, ack_in_of, named, command_of, items_of};
+ghost use Rattle.wl_scene.specs.Commands.{lane_0, sized, body_at, nth_from, nth_at, queue_of, send_of, reserve_of, book_of, put_of, deliver_of, ack_out_of, ack_in_of, end_named, end_at, install_of, turn_of, named, command_of, items_of};
 
 use crate::fault::{SceneFault, Stop};
 use crate::member::{has_number, has_only, has_text, text};
@@ -216,6 +216,55 @@ fn ack_in(value: &Value) -> Option<Plain>
     }
 }
 
+/// The member `end`.
+fn end(value: &Value) -> Option<EndId>
+    ensures { result ≡ end_at (view value.now) }
+{
+    match text(value, "end") {
+        Some(name) => end_of(name),
+        None => None,
+    }
+}
+
+/// The end of a name.
+fn end_of(name: &str) -> Option<EndId>
+    ensures { result ≡ end_named name.now }
+{
+    if name == "ap" {
+        return Some(EndId::Ap);
+    }
+    if name == "sta" {
+        return Some(EndId::Sta);
+    }
+    None
+}
+
+/// The command `install`.
+fn install(value: &Value) -> Option<Plain>
+    ensures { result ≡ install_of (view value.now) }
+{
+    if !has_only(value, &["do", "end"]) {
+        return None;
+    }
+    match end(value) {
+        Some(end) => Some(Plain::Do(Command::Install { end })),
+        None => None,
+    }
+}
+
+/// The command `turn`.
+fn turn(value: &Value) -> Option<Plain>
+    ensures { result ≡ turn_of (view value.now) }
+{
+    if !has_only(value, &["do", "end"]) {
+        return None;
+    }
+    match end(value) {
+        Some(end) => Some(Plain::Do(Command::Turn { end })),
+        None => None,
+    }
+}
+
 /// A command by its name, any but queue.
 fn by_name(link: LinkId, name: &str, value: &Value) -> Option<Plain>
     ensures { result ≡ named link name.now (view value.now) }
@@ -240,6 +289,12 @@ fn by_name(link: LinkId, name: &str, value: &Value) -> Option<Plain>
     }
     if name == "ack_in" {
         return ack_in(value);
+    }
+    if name == "install" {
+        return install(value);
+    }
+    if name == "turn" {
+        return turn(value);
     }
     None
 }

@@ -44,6 +44,8 @@ fn command_text(command: &Command) -> &'static str
         Command::Deliver { .. } => "deliver",
         Command::AckOut { .. } => "ack_out",
         Command::AckIn { .. } => "ack_in",
+        Command::Install { .. } => "install",
+        Command::Turn { .. } => "turn",
     }
 }
 
@@ -76,6 +78,9 @@ fn answer_text(outcome: &Outcome) -> &'static str
         Outcome::Acked { .. } => "acked",
         Outcome::OldAck => "oldack",
         Outcome::Done { .. } => "done",
+        Outcome::Installed { .. } => "installed",
+        Outcome::Turned { .. } => "turned",
+        Outcome::KeysSpent => "keysspent",
     }
 }
 
@@ -173,6 +178,7 @@ impl Object {
                 self.put_end(*end)?;
                 self.put_nth(*nth)
             }
+            Command::Install { end } | Command::Turn { end } => self.put_end(*end),
         }
     }
 
@@ -209,6 +215,9 @@ impl Object {
                 self.put_u16s("stored", stored.as_slice())
             }
             Outcome::Done { count } => self.put_number("count", u64::from(*count)),
+            Outcome::Installed { key } | Outcome::Turned { key } => {
+                self.put_number("key", u64::from(*key))
+            }
             _ => Ok(()),
         }
     }

@@ -6,12 +6,14 @@ use Rattle.wl_frame.specs.Sealing.{Sealing}
 use Rattle.wl_history.specs.declared.command.Command.{Command}
 use Rattle.wl_history.specs.declared.script.Plain.{Plain}
 use Rattle.wl_history.specs.declared.script.Plain.TheVariants.{Do, Send}
+use Rattle.wl_history.specs.declared.script.Stage.{Stage}
+use Rattle.wl_history.specs.declared.script.Stage.TheVariants.{Reserving, Booking, Putting}
 use Rattle.wl_history.specs.declared.start.Start.{Start}
 use Rattle.wl_history.specs.declared.step.Journal.{Journal}
 use Rattle.wl_history.specs.declared.step.Step.{Step}
 use Rattle.wl_history.specs.AirState.{state_of}
-use Rattle.wl_history.specs.Legal.{Legal, Forges}
-use Rattle.wl_history.specs.Scripts.{Cursor, Performed, Comes, Reaches, asks, plains}
+use Rattle.wl_history.specs.Legal.{Fits, Legal, Forges}
+use Rattle.wl_history.specs.Scripts.{Cursor, Performed, Comes, Reaches, asks, command_at, plains}
 use Rattle.wl_history.specs.Safe.{Safe}
 use Rattle.wl_air.specs.declared.fault.StepFault.{StepFault}
 use Rattle.wl_air.specs.declared.fault.StepFault.TheVariants as faults
@@ -25,8 +27,13 @@ use Rattle.wl_top.specs.Simulated.{BrokenOff, HasRun, IsOutput, IsHalf, IsWhole,
 
 -- the commands of a scenario are within the limits of a world
 plain_fits : (start : Start) (plain : Plain) → scene.PlainFits start plain → air.PlainFits start plain
-plain_fits start (Do command) fits = fits
-plain_fits start (Send end link lane) fits = (fits.0, fits.1)
+plain_fits start (Do command) fits = λ stage. fits
+plain_fits start (Send end link lane) fits = sending
+  where
+    sending : (stage : Stage) → Fits start (command_at stage (Send end link lane))
+    sending Reserving = fits.0
+    sending Booking = tt
+    sending Putting = fits.1
 
 all_fit : (start : Start) (left : List Plain) → AllByRecursion (scene.PlainFits start) left → AllByRecursion (air.PlainFits start) left
 all_fit start [] fits = tt

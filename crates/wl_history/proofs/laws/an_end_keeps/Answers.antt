@@ -1,4 +1,4 @@
-use Rattle.wl_history.proofs.Keeping.{queue_kept, reserve_kept, given_back, booked_so, puts_down, aired_so, arrived_kept, ack_kept}
+use Rattle.wl_history.proofs.Keeping.{queue_kept, reserve_kept, given_back, booked_so, puts_down, aired_so, arrived_kept, ack_kept, install_kept, turn_kept}
 use Rattle.wl_history.proofs.Sound.{started_end}
 use Rattle.wl_history.proofs.laws.an_end_keeps.Goals as goal
 
@@ -25,6 +25,12 @@ returns-clause-hear c = arrived_kept
 
 pub returns-clause-ack : goal.returns-clause-ack
 returns-clause-ack c = ack_kept c.laws_below.ensures.windows
+
+pub returns-clause-install : goal.returns-clause-install
+returns-clause-install c = λ o s. install_kept s o
+
+pub returns-clause-turn : goal.returns-clause-turn
+returns-clause-turn c = λ o s. turn_kept s o
 
 pub returns-clause-start : goal.returns-clause-start
 returns-clause-start c = started_end

@@ -32,7 +32,7 @@ module _ (g : Over) (c : After-settle g) where
   goes_on : Stands (g.Z.Sealer.text c.args.z.now) c.args.self.now → Stands (g.Z.Sealer.text c.args.z.now) (world_of c.self.inside.journal.start c.act.new.self c.settle.new.self)
   goes_on h =
       stands (g.Z.Sealer.text c.args.z.now) c.self.inside.journal.start c.self.inside.air c.act.new.self c.self.inside.journal.steps c.settle.new.self c.args.thread c.args.command c.in-Ok.outcome
-      room (omega arith) (subst (λ (w : WorldState). Fits w.start c.args.command) (sym c.self.view_is) c.requires.fits) c.test_ranges.ensures later acted join (subst (Stands (g.Z.Sealer.text c.args.z.now)) (sym c.self.view_is) h)
+      room (omega arith) (subst (λ (w : WorldState). Fits w.start c.args.command) (sym c.self.view_is) c.requires.fits) c.test.ensures later acted join (subst (Stands (g.Z.Sealer.text c.args.z.now)) (sym c.self.view_is) h)
 
 pub invariant_of-self-in-Ok : goal.invariant_of-self-in-Ok
 invariant_of-self-in-Ok g c =

@@ -13,6 +13,13 @@ Mixed: 100,000 lines of all kinds, by `decode` and by `check`, in lines a second
 commands and seven steps. The yardstick is Python: reading the scenario and writing it again with
 `json`, and SHA-256 over its bodies twice with `hashlib`, as often as a body is sealed and opened.
 
+Windows: windows of 64 and of 256 numbers in which one frame in a hundred is lost and sent again, and two
+links whose frames arrive out of order, some on the other link and in another try; each at 2^10, 2^13 and 2^16
+commands. A step is to take as long in the largest as in the smallest, within 1.5 times.
+
+Loops: one loop of 8,000 rounds, with bodies of one octet and of 1,000, in steps a second. What the longer
+bodies add is mostly hashing; the yardstick's two times show how much hashing that is.
+
 Times are the least of some runs, in seconds of wall time; the ratio is the program's time over the
 yardstick's. Memory is the peak of the program.
 
@@ -20,21 +27,26 @@ Usage: bench/run.py [--runs N]
 """
 
 import argparse
+import itertools
 import json
 import os
+import random
 import shutil
 import subprocess
 import sys
 import tempfile
-import time
 
 ROOT = os.path.dirname(os.path.dirname(os.path.abspath(__file__)))
 SIZE = 16 * 1024 * 1024
 GOAL_RATIO = 4.0
 GOAL_MEMORY_MB = 1000
+GOAL_RUN_MEMORY_MB = 400
 GOAL_GROWTH = 1.5
 GOAL_BEACON_US = 2.0
 BEACONS = 100_000
+LOSS = 0.01
+SIZES = [1 << 10, 1 << 13, 1 << 16]
+ROUNDS = 8000
 
 PYTHON_YARDSTICK = """
 import sys
@@ -43,15 +55,33 @@ for line in sys.stdin:
     out.write(bytes.fromhex(line))
 """
 
+# Runs a command over a file, and prints its time, its peak memory and its status. A process begins with the
+# peak of the one that started it, which therefore is this small one, and not the one that makes the inputs.
+MEASURER = """
+import os, subprocess, sys, time
+with open(sys.argv[1], "rb") as source, open(os.devnull, "wb") as sink:
+    start = time.monotonic()
+    child = subprocess.Popen(sys.argv[2:], stdin=source, stdout=sink)
+    _, status, usage = os.wait4(child.pid, 0)
+    taken = time.monotonic() - start
+print(taken, usage.ru_maxrss, os.waitstatus_to_exitcode(status))
+"""
+
 JSON_YARDSTICK = """
 import hashlib, json, sys
 scenario = json.load(sys.stdin)
 json.dump(scenario, sys.stdout)
-for command in scenario["before"]:
-    if "body" in command:
-        body = bytes.fromhex(command["body"])
-        hashlib.sha256(body).digest()
-        hashlib.sha256(body).digest()
+
+def hash_bodies(commands, times):
+    for command in commands:
+        if command["do"] == "loop":
+            hash_bodies(command["body"], command["times"])
+        elif "body" in command:
+            body = bytes.fromhex(command["body"])
+            for _ in range(2 * times):
+                hashlib.sha256(body).digest()
+
+hash_bodies(scenario["before"], 1)
 """
 
 
@@ -118,29 +148,77 @@ def mixed_kinds():
     return lines
 
 
-def scenario(commands, octets):
-    """So many commands, bodies of so many octets: queue, send, deliver, acknowledge, and again."""
-    turn = [
-        {"do": "queue", "end": "ap", "tid": 0, "body": ""},
-        {"do": "send", "end": "ap", "link": 0, "lane": 0},
-        {"do": "deliver", "end": "sta", "link": 0},
-        {"do": "ack_out", "end": "sta", "lane": 0},
-        {"do": "ack_in", "end": "ap"},
-    ]
-    before = []
-    for i in range(commands):
-        command = dict(turn[i % 5])
-        if "body" in command:
-            command["body"] = (i % 65536).to_bytes(2, "big").hex() + "a5" * (octets - 2)
-        before.append(command)
+def body_of(number, octets):
+    """Hex digits of a body of so many octets, which begins with the number."""
+    return ((number % 65536).to_bytes(2, "big").hex() + "a5" * octets)[: 2 * octets]
+
+
+def queue(number, octets):
+    return {"do": "queue", "end": "ap", "tid": 0, "body": body_of(number, octets)}
+
+
+def send(link=0):
+    return {"do": "send", "end": "ap", "link": link, "lane": 0}
+
+
+def again(pos, link=0):
+    return {"do": "again", "end": "ap", "link": link, "lane": 0, "pos": pos}
+
+
+def deliver(link=0, nth=None):
+    command = {"do": "deliver", "end": "sta", "link": link}
+    return command if nth is None else {**command, "nth": nth}
+
+
+ACKED = [{"do": "ack_out", "end": "sta", "lane": 0}, {"do": "ack_in", "end": "ap"}]
+
+
+def body_by_body(octets):
+    """Queue, send, deliver, acknowledge, and again."""
+    for number in itertools.count():
+        yield from [queue(number, octets), send(), deliver(), *ACKED]
+
+
+def with_losses(window, octets):
+    """Half a window of bodies at a time, and their acknowledgement; the frames lost among them are sent
+    again, and acknowledged too."""
+    source = random.Random(window)
+    for start in itertools.count(0, window // 2):
+        lost = []
+        for pos in range(start, start + window // 2):
+            yield from [queue(pos, octets), send()]
+            if source.random() < LOSS:
+                lost.append(pos)
+            else:
+                yield deliver()
+        yield from ACKED
+        for pos in lost:
+            yield from [again(pos), deliver()]
+        if lost:
+            yield from ACKED
+
+
+def over_two_links(octets):
+    """Sixteen bodies at a time, by turns on two links. Each link's frames arrive backwards, the second
+    link's first. The first frame is lost and sent again on the second link."""
+    for start in itertools.count(0, 16):
+        for pos in range(start, start + 16):
+            yield from [queue(pos, octets), send(pos % 2)]
+        block = start // 16
+        yield from [deliver(1, 9 * block + nth) for nth in reversed(range(8))]
+        yield from [deliver(0, 8 * block + nth) for nth in reversed(range(1, 8))]
+        yield from [again(start, 1), deliver(1), *ACKED]
+
+
+def scenario(commands, window=1, links=1):
     return {
         "version": 1,
         "ap": "020000000001",
         "sta": "020000000002",
         "key": "000102030405060708090a0b0c0d0e0f",
-        "links": [{"id": 0, "ap": "020000000010", "sta": "020000000020"}],
-        "window": 1,
-        "before": before,
+        "links": [{"id": i, "ap": f"02000000001{i}", "sta": f"02000000002{i}"} for i in range(links)],
+        "window": window,
+        "before": list(commands),
     }
 
 
@@ -153,16 +231,12 @@ def measure(command, path, runs):
     """The least wall time in seconds, and the peak memory in MB."""
     best, peak = None, 0
     for _ in range(runs):
-        with open(path, "rb") as source, open(os.devnull, "wb") as sink:
-            start = time.monotonic()
-            child = subprocess.Popen(command, stdin=source, stdout=sink)
-            _, status, usage = os.wait4(child.pid, 0)
-            taken = time.monotonic() - start
-            child.returncode = os.waitstatus_to_exitcode(status)
-        if child.returncode != 0:
-            sys.exit(f"{command[0]} ended with status {child.returncode}")
-        best = taken if best is None else min(best, taken)
-        peak = max(peak, usage.ru_maxrss / 1024)
+        told = subprocess.run([sys.executable, "-c", MEASURER, path, *command], capture_output=True, check=True)
+        taken, memory, status = told.stdout.split()
+        if int(status) != 0:
+            sys.exit(f"{command[0]} ended with status {int(status)}")
+        best = float(taken) if best is None else min(best, float(taken))
+        peak = max(peak, int(memory) / 1024)
     return best, peak
 
 
@@ -238,7 +312,7 @@ def run_table(folder, program, runs, missed):
     for commands, octets in scenarios():
         path = os.path.join(folder, "scenario.json")
         with open(path, "w", encoding="ascii") as file:
-            json.dump(scenario(commands, octets), file, separators=(",", ":"))
+            json.dump(scenario(itertools.islice(body_by_body(octets), commands)), file, separators=(",", ":"))
         ours, memory = measure([program, "run"], path, runs)
         theirs, _ = measure([sys.executable, "-c", JSON_YARDSTICK], path, runs)
         ratio = ours / theirs
@@ -255,6 +329,60 @@ def run_table(folder, program, runs, missed):
     growth = steps_took[-1] / steps_took[0]
     if growth > GOAL_GROWTH:
         missed.append(f"a step takes {growth:.1f} times as long in the largest, goal {GOAL_GROWTH}")
+
+
+def measure_run(folder, program, given, runs):
+    """The times of the program and of the yardstick for a scenario, the program's memory, and the steps."""
+    path = os.path.join(folder, "scenario.json")
+    with open(path, "w", encoding="ascii") as file:
+        json.dump(given, file, separators=(",", ":"))
+    with open(path, "rb") as source:
+        written = subprocess.run([program, "run"], stdin=source, capture_output=True, check=True).stdout
+    report = json.loads(written.splitlines()[-1])
+    queued, released = report["ap"]["queued"]["0"], report["sta"]["released"]["0"]
+    if sum(last - first + 1 for first, last in released) < queued / 2:
+        sys.exit("the scenario's bodies don't arrive")
+    ours, memory = measure([program, "run"], path, runs)
+    theirs, _ = measure([sys.executable, "-c", JSON_YARDSTICK], path, runs)
+    return ours, theirs, memory, report["steps"]
+
+
+def windows_table(folder, program, runs, missed):
+    kinds = [
+        ("window 64, 1 % lost", lambda: with_losses(64, 200), 64, 1),
+        ("window 256, 1 % lost", lambda: with_losses(256, 200), 256, 1),
+        ("two links, reordered, retries", lambda: over_two_links(200), 64, 2),
+    ]
+    print("| bodies of 200 octets | commands | mld run | json and hashlib | ratio | a step | memory |")
+    print("|---|---|---|---|---|---|---|")
+    for label, commands, window, links in kinds:
+        steps_took = []
+        for size in SIZES:
+            given = scenario(itertools.islice(commands(), size), window, links)
+            ours, theirs, memory, steps = measure_run(folder, program, given, runs)
+            steps_took.append(ours / steps * 1e6)
+            print(
+                f"| {label} | {size:,} | {ours:.3f} s | {theirs:.3f} s | {ours / theirs:.1f} "
+                f"| {steps_took[-1]:.1f} us | {memory:.0f} MB |"
+            )
+            if memory > GOAL_RUN_MEMORY_MB:
+                missed.append(f"{label}, {size:,}: {memory:.0f} MB, goal {GOAL_RUN_MEMORY_MB}")
+        growth = steps_took[-1] / steps_took[0]
+        if growth > GOAL_GROWTH:
+            missed.append(f"{label}: a step takes {growth:.1f} times as long in the largest, goal {GOAL_GROWTH}")
+
+
+def loop_table(folder, program, runs, missed):
+    print(f"| a loop of {ROUNDS:,} rounds | mld run | steps a second | json and hashlib | memory |")
+    print("|---|---|---|---|---|")
+    for octets in (1, 1000):
+        body = list(itertools.islice(body_by_body(octets), 5))
+        given = scenario([{"do": "loop", "times": ROUNDS, "body": body}])
+        ours, theirs, memory, steps = measure_run(folder, program, given, runs)
+        label = f"bodies of {octets:,} octets" if octets > 1 else "bodies of one octet"
+        print(f"| {label} | {ours:.3f} s | {steps / ours:,.0f} | {theirs:.3f} s | {memory:.0f} MB |")
+        if memory > GOAL_RUN_MEMORY_MB:
+            missed.append(f"a loop, {label}: {memory:.0f} MB, goal {GOAL_RUN_MEMORY_MB}")
 
 
 def main():
@@ -279,6 +407,10 @@ def main():
         mixed_table(folder, program, yardstick, name, runs, missed)
         print()
         run_table(folder, program, runs, missed)
+        print()
+        windows_table(folder, program, runs, missed)
+        print()
+        loop_table(folder, program, runs, missed)
     for line in missed:
         print(f"missed: {line}")
 

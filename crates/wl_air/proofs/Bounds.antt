@@ -1,5 +1,5 @@
 -- How far one step of two ends can go, and that what holds of each world holds after it.
-use Rattle.std.proofs.Common.{◌≡◌, ℕ, zero, suc, ◌+◌, ◌<◌, ◌≤◌, Bool, true, false, List, [], ◌∷◌, ◌++◌, length, get_or, set, Option, Some, None, refl, sym, ap, subst, ◌∙◌, arith, length-append}
+use Rattle.std.proofs.Common.{◌≡◌, ℕ, zero, suc, ◌+◌, ◌<◌, ◌≤◌, Bool, true, false, List, [], ◌∷◌, ◌++◌, length, get_or, set, Option, Some, None, Result, Ok, Err, refl, sym, ap, subst, ◌∙◌, arith, length-append}
 use Rattle.std.specs.Prelude.{nat_lt, ◌==◌, if◌then◌else◌}
 use Rattle.std.specs.List.{AllByRecursion}
 use Rattle.wl_elem.specs.declared.lane.EndId.{EndId}
@@ -12,9 +12,11 @@ use Rattle.wl_number.specs.declared.numbers.Numbers.{Numbers}
 use Rattle.wl_number.specs.Bookings.{booking_count}
 use Rattle.wl_number.specs.OrderRule.{list_of, entered_in}
 use Rattle.wl_replay.specs.Replay.{is_above, last_of}
-use Rattle.wl_window.specs.Originating.{Acked}
-use Rattle.wl_window.specs.Reordering.{IsNear, Window, Arrived, Old, Doubled, Stored, arrived}
+use Rattle.wl_window.specs.Originating.{Sending, Acked}
+use Rattle.wl_window.specs.declared.refusal.MoveRefusal.{MoveRefusal}
+use Rattle.wl_window.specs.Reordering.{IsNear, Window, Moved, Arrived, Old, Doubled, Stored, arrived}
 use Rattle.wl_history.specs.declared.ack.Ack.{Ack}
+use Rattle.wl_history.specs.declared.ack.Bar.{Bar}
 use Rattle.wl_history.specs.declared.arrival.Arrival.{Arrival}
 use Rattle.wl_history.specs.declared.command.Command.{Command}
 use Rattle.wl_history.specs.declared.command.Command.TheVariants as commands
@@ -27,12 +29,12 @@ use Rattle.wl_history.specs.declared.start.Start.{Start}
 use Rattle.wl_history.specs.Ends.{IsSetup, IsStart, start_of, receive_size}
 use Rattle.wl_history.specs.Hands.{hand_of}
 use Rattle.wl_history.specs.Answers.{aired_octets, acks_made}
-use Rattle.wl_history.specs.EndState.{LaneState, EndState, lane_at, no_lane, no_lanes, no_management, started, frames_on, with_lane, with_frame, put_down, arrival_of, after_queue, after_reserve, after_book, after_put, after_arrived, after_heard, after_acked, after_taken, after_install, after_turn, acked_by}
-use Rattle.wl_history.specs.AirState.{AirState, end_of, acks_of, with_end, with_acks, ack_named, begun, after}
+use Rattle.wl_history.specs.EndState.{LaneState, EndState, lane_at, no_lane, no_lanes, no_management, started, frames_on, with_lane, with_frame, put_down, arrival_of, after_queue, after_reserve, after_book, after_put, after_arrived, after_heard, after_again, after_acked, after_taken, after_given, after_bar_out, after_moved, after_request, after_install, after_turn, acked_by, given_by, moved_by}
+use Rattle.wl_history.specs.AirState.{AirState, end_of, acks_of, with_end, with_acks, with_bars, ack_named, bar_named, begun, after}
 use Rattle.wl_end.specs.Parts.{frame_count}
 use Rattle.wl_history.specs.Legal.{step_limit}
 use Rattle.wl_air.specs.World.{IsBounded, IsRoomy, IsWorld}
-use Rattle.wl_air.proofs.Windows.{StoredNear, ArrivedNear, arrived_near}
+use Rattle.wl_air.proofs.Windows.{StoredNear, RequestedNear, NearLaws, ArrivedNear, AskedNear, arrived_near, asked_near}
 
 -- ---- one end
 
@@ -158,6 +160,22 @@ module _ (s : EndState) where
       (arrived_near law (lane_at s (lane_index lane)).window number size (arrival_of p lane n) (size_by (lane_index lane == lane_index Management) s.setup.window some.some_window) (near (lane_index lane))))
   heard_grown law p other some near = still_grown s
 
+  moved_grown : (lane : Lane) (moved : Option (Moved Arrival)) → AskedNear (lane_at s (lane_index lane)).window moved → Grown s (after_moved lane moved s)
+  moved_grown lane None near = still_grown s
+  moved_grown lane (Some moved) near = arrived_grown lane (Stored moved) near
+
+  request_grown : RequestedNear → (named : Option Bar) → ((l : ℕ) → IsNear (lane_at s l).window) → Grown s (after_request named s)
+  request_grown law None near = still_grown s
+  request_grown law (Some bar) near = moved_grown bar.lane (moved_by bar s) (asked_near law (lane_at s (lane_index bar.lane)).window bar.start (near (lane_index bar.lane)))
+
+  given_grown : (lane : Lane) (given : Result Sending MoveRefusal) → Grown s (after_given lane given s)
+  given_grown lane (Ok sending) = record { start_same = refl; sized = λ h. h; lanes = same_lane (lane_index lane) _ refl refl; booked = omega arith; aired = omega arith }
+  given_grown lane (Err why) = still_grown s
+
+  again_grown : (link : ℕ) (lane : Lane) (octets : List ℕ) (o : Outcome) → Grown s (after_again link lane octets o s)
+  again_grown link lane octets (outcomes.PutAgain n retry) = frame_grown link octets lane n
+  again_grown link lane octets other = still_grown s
+
   acked_grown : (ack : Ack) (a : Option Acked) → Grown s (after_acked ack a s)
   acked_grown ack None = still_grown s
   acked_grown ack (Some acked) = record { start_same = refl; sized = λ h. h; lanes = same_lane (lane_index ack.lane) _ refl refl; booked = omega arith; aired = omega arith }
@@ -190,13 +208,24 @@ module _ (a : AirState) where
   at_acks Sta acks Ap = still_grown a.ap
   at_acks Sta acks Sta = still_grown a.sta
 
-  after_grown : StoredNear → (text : Sealing) (thread : ℕ) (command : Command) (o : Outcome) → ((e : EndId) → IsSetup (end_of a e).setup) → ((e : EndId) (l : ℕ) → IsNear (lane_at (end_of a e) l).window)
+  at_bars : (end : EndId) (bars : List Bar) (b : AirState) (e : EndId) → Grown (end_of a e) (end_of b e) → Grown (end_of a e) (end_of (with_bars end bars b) e)
+  at_bars Ap bars b Ap g = g
+  at_bars Ap bars b Sta g = g
+  at_bars Sta bars b Ap g = g
+  at_bars Sta bars b Sta g = g
+
+  after_grown : NearLaws → (text : Sealing) (thread : ℕ) (command : Command) (o : Outcome) → ((e : EndId) → IsSetup (end_of a e).setup) → ((e : EndId) (l : ℕ) → IsNear (lane_at (end_of a e) l).window)
       → (e : EndId) → Grown (end_of a e) (end_of (after text thread command o a) e)
   after_grown law text thread (commands.Queue end tid body) o some near = at_end end _ (queue_grown (end_of a end) tid body)
   after_grown law text thread (commands.Reserve end lane) o some near = at_end end _ (reserve_grown (end_of a end) thread lane o)
   after_grown law text thread (commands.Book end) o some near = at_end end _ (book_grown (end_of a end) thread o)
   after_grown law text thread (commands.Put end link) o some near = at_end end _ (put_grown (end_of a end) thread link (aired_octets text link (hand_of (end_of a end).hands thread) (end_of a end)) o)
-  after_grown law text thread (commands.Deliver end link nth) o some near = at_end end _ (heard_grown (end_of a end) law (end_of a (peer_of end)) o (some end) (near end))
+  after_grown law text thread (commands.Deliver end link nth) o some near = at_end end _ (heard_grown (end_of a end) law.stored (end_of a (peer_of end)) o (some end) (near end))
+  after_grown law text thread (commands.Alter end link nth number) o some near = at_end end _ (heard_grown (end_of a end) law.stored (end_of a (peer_of end)) o (some end) (near end))
+  after_grown law text thread (commands.Forge end link lane key pn number body) o some near = at_end end _ (heard_grown (end_of a end) law.stored (end_of a (peer_of end)) o (some end) (near end))
+  after_grown law text thread (commands.Again end link lane pos) o some near = at_end end _ (again_grown (end_of a end) link lane _ o)
+  after_grown law text thread (commands.BarOut end lane to) o some near = λ e. at_bars end _ (with_end end (after_bar_out lane to (end_of a end)) a) e (at_end end _ (given_grown (end_of a end) lane (given_by lane to (end_of a end))) e)
+  after_grown law text thread (commands.BarIn end nth) o some near = at_end end _ (request_grown (end_of a end) law.asked (bar_named a end nth) (near end))
   after_grown law text thread (commands.AckOut end lane) o some near = at_acks end (acks_made lane o (acks_of a end))
   after_grown law text thread (commands.AckIn end nth) o some near = at_end end _ (taken_grown (end_of a end) (ack_named a end nth))
   after_grown law text thread (commands.Install end) o some near = at_end end _ (install_grown (end_of a end) o)
@@ -220,7 +249,7 @@ roomy steps s lt b = record {
   windows = λ l. omega (arith, lt, b.windows l);
 }
 
-pub world_kept : StoredNear → (text : Sealing) (start : Start) (a : AirState) (steps : ℕ) (thread : ℕ) (command : Command) (o : Outcome) → steps < step_limit → IsWorld start a steps → IsWorld start (after text thread command o a) (suc steps)
+pub world_kept : NearLaws → (text : Sealing) (start : Start) (a : AirState) (steps : ℕ) (thread : ℕ) (command : Command) (o : Outcome) → steps < step_limit → IsWorld start a steps → IsWorld start (after text thread command o a) (suc steps)
 world_kept law text start a steps thread command o lt w =
     let grown = after_grown a law text thread command o (λ e. (w.bounded e).sized) (λ e l. (w.bounded e).near l) in
     record {

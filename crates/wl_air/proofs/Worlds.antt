@@ -1,5 +1,6 @@
 -- A step of a world: what was done, and what the journal has of it.
 use Rattle.std.proofs.Common.{◌≡◌, ℕ, suc, ◌<◌, ◌^◌, List, [], ◌∷◌, length, refl, sym, ap, subst, ◌∙◌, Option, Some, None}
+use Rattle.std.specs.Prelude.{is_some}
 use Rattle.wl_elem.specs.declared.lane.EndId.{EndId}
 use Rattle.wl_elem.specs.declared.lane.EndId.TheVariants.{Ap, Sta}
 use Rattle.wl_elem.specs.Lanes.{peer_of}
@@ -9,20 +10,21 @@ use Rattle.wl_history.specs.declared.command.Command.TheVariants as commands
 use Rattle.wl_history.specs.declared.opened.Opened.{Opened}
 use Rattle.wl_history.specs.declared.outcome.Outcome.{Outcome}
 use Rattle.wl_history.specs.declared.start.EndStart.{EndStart}
+use Rattle.wl_history.specs.declared.start.LinkStart.{LinkStart}
 use Rattle.wl_history.specs.declared.start.Start.{Start}
 use Rattle.wl_history.specs.declared.step.Step.{Step}
 use Rattle.wl_history.specs.AirState.{AirState, end_of, begun, after, state_of, hearer}
-use Rattle.wl_history.specs.Ends.{IsStart, start_of, mld_of}
+use Rattle.wl_history.specs.Ends.{IsStart, start_of, mld_of, is_link, link_at}
 use Rattle.wl_history.specs.Legal.{Fits, InRanges, IsAnswer, Forges, step_limit}
 use Rattle.wl_history.specs.Scripts.{step_of}
 use Rattle.wl_air.specs.declared.fault.StepFault.{StepFault}
 use Rattle.wl_air.specs.declared.fault.StepFault.TheVariants as faults
-use Rattle.wl_air.specs.Acting.{BodyFits, IsStepFault}
+use Rattle.wl_air.specs.Acting.{CanDo, IsStepFault}
 use Rattle.wl_air.specs.Air.{AreJoined, KnowsPeer, KnowsIf}
 use Rattle.wl_air.specs.Playing.{IsWorldFault}
 use Rattle.wl_air.specs.World.{IsWorld, IsRoomy, Stands, world_of}
 use Rattle.wl_air.proofs.Bounds.{roomy, world_kept}
-use Rattle.wl_air.proofs.Windows.{StoredNear}
+use Rattle.wl_air.proofs.Windows.{NearLaws}
 
 -- ---- what the ends of a world know of each other
 
@@ -68,9 +70,19 @@ knows_peer start a steps command w = knows_if (hearer command)
 
 -- ---- a step
 
-pub body_fits : (start : Start) (command : Command) → Fits start command → BodyFits command
-body_fits start (commands.Queue end tid body) fits = (fits.1, fits.2)
-body_fits start other fits = tt
+-- both ends have the same links
+same_links : (start : Start) → IsStart start → (e : EndId) → (start_of start (peer_of e)).links ≡ (start_of start e).links
+same_links start is Ap = is.links_same
+same_links start is Sta = sym is.links_same
+
+pub can_do : (start : Start) (a : AirState) (steps : ℕ) (command : Command) → IsWorld start a steps → Fits start command → CanDo command a
+can_do start a steps (commands.Queue end tid body) w fits = (fits.1, fits.2)
+can_do start a steps (commands.Alter end link nth number) w fits = fits.1
+can_do start a steps (commands.Forge end link lane key pn number body) w fits = (
+  ap (λ (s : EndStart). is_link s link) (w.starts (peer_of end)) ∙ ap (λ (links : List LinkStart). is_some (link_at link links)) (same_links start w.is_start end) ∙ fits.0,
+  fits.2,
+)
+can_do start a steps other w fits = tt
 
 -- the command of the latest step is the one that was noted
 pub noted : (thread : ℕ) (command seen : Command) (o : Outcome) (before pushed : List Step) → pushed ≡ step_of thread command o ∷ before → ((s : Step) (b : List Step) → pushed ≡ s ∷ b → seen ≡ s.command) → seen ≡ command
@@ -88,7 +100,7 @@ pub record Acted (text : Sealing) (thread : ℕ) (command : Command) (a : AirSta
   pub unforged : KnowsPeer command a → (opened : Opened) → Forges text command a opened → ⊥
   pub then_is : a' ≡ after text thread command o a
 
-pub kept : StoredNear → (text : Sealing) (start : Start) (a a' : AirState) (before later : List Step) (thread : ℕ) (command : Command) (o : Outcome) → length before < step_limit → later ≡ step_of thread command o ∷ before → Acted text thread command a o a'
+pub kept : NearLaws → (text : Sealing) (start : Start) (a a' : AirState) (before later : List Step) (thread : ℕ) (command : Command) (o : Outcome) → length before < step_limit → later ≡ step_of thread command o ∷ before → Acted text thread command a o a'
     → IsWorld start a (length before) → IsWorld start a' (length later)
 kept law text start a a' before later thread command o room is acted w =
     subst (λ (x : List Step). IsWorld start a' (length x)) (sym is) (subst (λ (x : AirState). IsWorld start x (suc (length before))) (sym acted.then_is) (world_kept law text start a (length before) thread command o room w))

@@ -1,32 +1,35 @@
-//! Two ends, and what they acknowledged.
+//! Two ends, what they acknowledged, and what they asked of each other.
 
-ghost use Rattle.std.specs.Prelude.{◌≡◌, ◌-◌, ◌^◌, ◌<◌, ◌≤◌, length, option_copied, Ok, IfOk, IfErr, OnErr};
+ghost use Rattle.std.specs.Prelude.{◌≡◌, true, ◌-◌, ◌^◌, ◌<◌, ◌≤◌, length, option_copied, option_map, Some, Ok, Err, IfOk, OnOk, IfErr, OnErr};
 ghost use Rattle.std.specs.Result.{IsErr};
 ghost use Rattle.wl_elem.specs.Element.{msdu_limit};
 ghost use Rattle.wl_elem.specs.Lanes.{lane_index, peer_of};
 ghost use Rattle.wl_history.specs.declared.opened.Opened.{Opened};
 ghost use Rattle.wl_history.specs.declared.outcome.Outcome.TheVariants.{Queued as IsQueued, Acked as IsAcked};
-ghost use Rattle.wl_history.specs.Answers.{reserve_answer, book_answer, put_of, aired_octets, ack_out_answer, ack_answer, acks_made, install_answer, turn_answer};
-ghost use Rattle.wl_history.specs.EndState.{lane_at, after_queue, after_reserve, after_book, after_put, after_taken, after_heard, after_install, after_turn};
-ghost use Rattle.wl_history.specs.Ends.{send_size};
+ghost use Rattle.wl_history.specs.Answers.{reserve_answer, book_answer, put_of, aired_octets, booked_at, again_of, octets_again, ack_out_answer, ack_answer, acks_made, given_answer, bar_out_answer, bar_answer, bars_made, install_answer, turn_answer};
+ghost use Rattle.wl_history.specs.EndState.{lane_at, after_queue, after_reserve, after_book, after_put, after_again, after_taken, after_heard, after_bar_out, after_request, after_install, after_turn};
+ghost use Rattle.wl_history.specs.Ends.{send_size, is_link};
+ghost use Rattle.wl_history.specs.Hearing.{with_number, forged};
 ghost use Rattle.wl_history.specs.Hands.{hand_of};
-ghost use Rattle.wl_history.specs.Legal.{HeardIf, ForgedIf, IsAnswer, Forges};
+ghost use Rattle.wl_history.specs.Legal.{HeardIf, ForgedIf, IsAnswer, Forges, IsSealable};
 ghost use Rattle.wl_history.specs.Plain.{IsPlain};
-ghost use Rattle.wl_air.specs.Acting.{BodyFits, IsHearFault, IsStepFault};
+ghost use Rattle.wl_air.specs.Acting.{CanDo, IsHearFault, IsStepFault};
 ghost use Rattle.wl_air.specs.World.{IsRoomy};
 ghost use Rattle.wl_air.specs.declared.fault.StepFault.TheVariants.{Memory as IsMemory};
 
-use crate::acks::Acks;
 use crate::fault::StepFault;
-use crate::heard::{aired, hear_if};
+use crate::heard::{aired, altered, hear_if, slice_of, take_request};
+use crate::records::Records;
 use std::alloc::Global;
 use std::marker::Model;
 use wl_elem::{Bytes, EndId, Lane, LinkId, Memory, Tid};
 use wl_end::End;
 use wl_frame::Sealer;
-use wl_history::{Ack, Command, Outcome, SequenceNumbers, Start};
+use wl_history::{Ack, Bar, Command, Outcome, SequenceNumbers, Start};
+use wl_number::Numbers;
+use wl_window::MoveRefusal;
 
-/// Two ends, and what each acknowledged.
+/// Two ends, and what each acknowledged and asked of the other.
 #[derive(Debug, Drop)]
 pub struct Air {
     /// The AP MLD.
@@ -34,9 +37,13 @@ pub struct Air {
     /// The station MLD.
     sta: End,
     /// What the AP acknowledged.
-    ap_acks: Acks,
+    ap_acks: Records<Ack>,
     /// What the station acknowledged.
-    sta_acks: Acks,
+    sta_acks: Records<Ack>,
+    /// The AP's requests to move a window.
+    ap_bars: Records<Bar>,
+    /// The station's requests to move a window.
+    sta_bars: Records<Bar>,
 }
 
 impl Model for Air {
@@ -44,7 +51,7 @@ impl Model for Air {
 
     ghost Value = { AirState };
 
-    ghost view = { λ a. record { ap = a.ap; sta = a.sta; ap_acks = a.ap_acks; sta_acks = a.sta_acks } };
+    ghost view = { λ a. record { ap = a.ap; sta = a.sta; ap_acks = a.ap_acks; sta_acks = a.sta_acks; ap_bars = a.ap_bars; sta_bars = a.sta_bars } };
 }
 
 /// The answer to an acknowledgement that was made.
@@ -75,7 +82,7 @@ fn acknowledge(
     alloc: Global,
     end: &End,
     lane: &Lane,
-    acks: &mut Acks,
+    acks: &mut Records<Ack>,
 ) -> Result<(Outcome, Outcome), Memory>
     ensures answer { IfOk result (λ o. o.0 ≡ ack_out_answer (lane_at end.now (lane_index lane.now)).window) }
     ensures again { IfOk result (λ o. o.1 ≡ o.0) }
@@ -117,6 +124,48 @@ fn take(end: &mut End, ack: Option<&Ack>) -> Outcome
     match end.ack_in(ack) {
         Some(count) => Outcome::Done { count },
         None => Outcome::OldAck,
+    }
+}
+
+/// Why positions can't be given up, as an answer.
+fn refused(why: MoveRefusal) -> Outcome
+    ensures answer { result ≡ given_answer (Err why) }
+    ensures plain { IsPlain result }
+{
+    match why {
+        MoveRefusal::NotBooked => Outcome::NotBooked,
+        MoveRefusal::Behind => Outcome::Behind,
+    }
+}
+
+/// What stands for a request of a lane until it is made.
+fn unmade(lane: Lane) -> Bar
+    ensures { result.lane ≡ lane }
+{
+    Bar { lane, start: 0 }
+}
+
+/// Lets an end give positions of a lane up, and adds the request to those that it made.
+fn bar(end: &mut End, lane: &Lane, to: u32, bars: &mut Records<Bar>) -> Result<Outcome, Memory>
+    ensures answer { IfOk result (λ o. o ≡ bar_out_answer lane.now to end.old) }
+    ensures plain { IfOk result IsPlain }
+    ensures after { OnOk result (end.new ≡ after_bar_out lane.now to end.old) }
+    ensures bars { IfOk result (λ o. bars.new ≡ bars_made lane.now o bars.old) }
+    ensures unchanged { OnErr result (end.new ≡ end.old) }
+    ensures same_bars { OnErr result (bars.new ≡ bars.old) }
+{
+    // The room for the request is taken first: what was given up can't be undone.
+    bars.push(unmade(*lane))?;
+    match end.bar_out(*lane, to) {
+        Ok(made) => {
+            let start = made.start;
+            bars.settle(made);
+            Ok(Outcome::Barred { start })
+        }
+        Err(why) => {
+            bars.take_back();
+            Ok(refused(why))
+        }
     }
 }
 
@@ -172,7 +221,7 @@ impl Air {
     ghost use Rattle.std.specs.Borrow.{sem};
     ghost use Rattle.wl_air.specs.Lending.{LendsEnd};
     ghost use Rattle.wl_elem.specs.declared.lane.EndId.{EndId};
-    ghost use Rattle.wl_history.specs.AirState.{end_of, acks_of, with_end, with_acks, ack_named, octets_named, begun, after};
+    ghost use Rattle.wl_history.specs.AirState.{end_of, acks_of, bars_of, with_end, with_acks, with_bars, ack_named, bar_named, octets_named, begun, after};
     ghost use Rattle.wl_air.specs.Air.{AreJoined, CanStart, KnowsPeer};
 
     /// Two ends that did nothing yet. `Memory` where there was none for their windows.
@@ -188,8 +237,10 @@ impl Air {
         Ok(Air {
             ap,
             sta,
-            ap_acks: Acks::new(alloc),
-            sta_acks: Acks::new(alloc),
+            ap_acks: Records::new(alloc),
+            sta_acks: Records::new(alloc),
+            ap_bars: Records::new(alloc),
+            sta_bars: Records::new(alloc),
         })
     }
 
@@ -246,6 +297,39 @@ impl Air {
         }
     }
 
+    /// Lets an end give positions of a lane up. The request is kept for the peer.
+    fn bar_out(&mut self, end: EndId, lane: &Lane, to: u32) -> Result<Outcome, Memory>
+        ensures answer { IfOk result (λ o. o ≡ bar_out_answer lane.now to (end_of self.old end)) }
+        ensures plain { IfOk result IsPlain }
+        ensures after { IfOk result (λ o. self.new ≡ with_bars end (bars_made lane.now o (bars_of self.old end)) (with_end end (after_bar_out lane.now to (end_of self.old end)) self.old)) }
+        ensures unchanged { OnErr result (self.new ≡ self.old) }
+    {
+        match end {
+            EndId::Ap => bar(&mut self.ap, lane, to, &mut self.ap_bars),
+            EndId::Sta => bar(&mut self.sta, lane, to, &mut self.sta_bars),
+        }
+    }
+
+    /// Lets an end take the request of its peer of this number, or the latest. The answer comes twice: for
+    /// the caller and for the journal.
+    fn bar_in(
+        &mut self,
+        alloc: Global,
+        end: EndId,
+        nth: Option<u32>,
+    ) -> Result<(Outcome, Outcome), Memory>
+        requires roomy { IsRoomy (end_of self.old end) }
+        ensures answer { IfOk result (λ o. o.0 ≡ bar_answer (bar_named self.old end nth) (end_of self.old end)) }
+        ensures again { IfOk result (λ o. o.1 ≡ o.0) }
+        ensures after { OnOk result (self.new ≡ with_end end (after_request (bar_named self.old end nth) (end_of self.old end)) self.old) }
+        ensures unchanged { OnErr result (self.new ≡ self.old) }
+    {
+        match end {
+            EndId::Ap => take_request(alloc, &mut self.ap, self.sta_bars.named(nth)),
+            EndId::Sta => take_request(alloc, &mut self.sta, self.ap_bars.named(nth)),
+        }
+    }
+
     /// Lets an end hear the frame of its peer of this number on a link, from 0, or the latest there. The
     /// answer comes twice: for the caller and for the journal.
     ///
@@ -280,14 +364,94 @@ impl Air {
         }
     }
 
+    /// Lets an end hear octets on a link, where there are some, as `deliver` does.
+    fn hear<Z: Sealer>(
+        &mut self,
+        alloc: Global,
+        end: EndId,
+        link: LinkId,
+        octets: Option<&[u8]>,
+        z: &Z,
+    ) -> Result<(Outcome, Outcome), StepFault>
+        requires roomy { IsRoomy (end_of self.old end) }
+        ensures answer { IfOk result (λ o. AreJoined (end_of self.old end) (end_of self.old (peer_of end)) → HeardIf (Z.text z.now) (end_of self.old end) (end_of self.old (peer_of end)) link (option_copied octets.entry) o.0) }
+        ensures unforged { IfOk result (λ o. AreJoined (end_of self.old end) (end_of self.old (peer_of end)) → (opened : Opened) → ForgedIf (Z.text z.now) (end_of self.old end) (end_of self.old (peer_of end)) link (option_copied octets.entry) opened → ⊥) }
+        ensures after { IfOk result (λ o. self.new ≡ with_end end (after_heard (end_of self.old (peer_of end)) o.0 (end_of self.old end)) self.old) }
+        ensures again { IfOk result (λ o. o.1 ≡ o.0) }
+        ensures fault { IfErr result (λ f. AreJoined (end_of self.old end) (end_of self.old (peer_of end)) → IsHearFault (Z.text z.now) (end_of self.old end) (end_of self.old (peer_of end)) link (option_copied octets.entry) f) }
+        ensures unchanged { OnErr result (self.new ≡ self.old) }
+    {
+        match end {
+            EndId::Ap => hear_if(alloc, &mut self.ap, &self.sta, link, octets, z),
+            EndId::Sta => hear_if(alloc, &mut self.sta, &self.ap, link, octets, z),
+        }
+    }
+
+    /// Lets an end hear the frame that `deliver` would, with another sequence number, below 4,096.
+    fn alter<Z: Sealer>(
+        &mut self,
+        alloc: Global,
+        end: EndId,
+        link: LinkId,
+        nth: Option<u32>,
+        number: u16,
+        z: &Z,
+    ) -> Result<(Outcome, Outcome), StepFault>
+        requires fits { number < 4096 }
+        requires roomy { IsRoomy (end_of self.old end) }
+        ensures answer { IfOk result (λ o. AreJoined (end_of self.old end) (end_of self.old (peer_of end)) → HeardIf (Z.text z.now) (end_of self.old end) (end_of self.old (peer_of end)) link (option_map (with_number number) (octets_named self.old end link nth)) o.0) }
+        ensures unforged { IfOk result (λ o. AreJoined (end_of self.old end) (end_of self.old (peer_of end)) → (opened : Opened) → ForgedIf (Z.text z.now) (end_of self.old end) (end_of self.old (peer_of end)) link (option_map (with_number number) (octets_named self.old end link nth)) opened → ⊥) }
+        ensures after { IfOk result (λ o. self.new ≡ with_end end (after_heard (end_of self.old (peer_of end)) o.0 (end_of self.old end)) self.old) }
+        ensures again { IfOk result (λ o. o.1 ≡ o.0) }
+        ensures fault { IfErr result (λ f. AreJoined (end_of self.old end) (end_of self.old (peer_of end)) → IsHearFault (Z.text z.now) (end_of self.old end) (end_of self.old (peer_of end)) link (option_map (with_number number) (octets_named self.old end link nth)) f) }
+        ensures unchanged { OnErr result (self.new ≡ self.old) }
+    {
+        let octets = match altered(alloc, aired(self.end(end.peer()), link, nth), number) {
+            Ok(octets) => octets,
+            Err(_) => return Err(StepFault::Memory),
+        };
+        self.hear(alloc, end, link, slice_of(&octets), z)
+    }
+
+    /// Lets an end hear a frame in its peer's name that somebody sealed, as if the peer had booked these
+    /// numbers for this body; the position is the sequence number, below 4,096.
+    fn forge<Z: Sealer>(
+        &mut self,
+        alloc: Global,
+        end: EndId,
+        link: LinkId,
+        lane: Lane,
+        numbers: Numbers,
+        body: &Bytes,
+        z: &Z,
+    ) -> Result<(Outcome, Outcome), StepFault>
+        requires known { is_link (end_of self.old (peer_of end)).start link ≡ true }
+        requires fits { IsSealable numbers.pn numbers.pos body.now }
+        requires roomy { IsRoomy (end_of self.old end) }
+        ensures answer { IfOk result (λ o. AreJoined (end_of self.old end) (end_of self.old (peer_of end)) → HeardIf (Z.text z.now) (end_of self.old end) (end_of self.old (peer_of end)) link (Some (forged (Z.text z.now) (end_of self.old (peer_of end)).start link lane numbers body.now)) o.0) }
+        ensures unforged { IfOk result (λ o. AreJoined (end_of self.old end) (end_of self.old (peer_of end)) → (opened : Opened) → ForgedIf (Z.text z.now) (end_of self.old end) (end_of self.old (peer_of end)) link (Some (forged (Z.text z.now) (end_of self.old (peer_of end)).start link lane numbers body.now)) opened → ⊥) }
+        ensures after { IfOk result (λ o. self.new ≡ with_end end (after_heard (end_of self.old (peer_of end)) o.0 (end_of self.old end)) self.old) }
+        ensures again { IfOk result (λ o. o.1 ≡ o.0) }
+        ensures fault { IfErr result (λ f. AreJoined (end_of self.old end) (end_of self.old (peer_of end)) → IsHearFault (Z.text z.now) (end_of self.old end) (end_of self.old (peer_of end)) link (Some (forged (Z.text z.now) (end_of self.old (peer_of end)).start link lane numbers body.now)) f) }
+        ensures unchanged { OnErr result (self.new ≡ self.old) }
+    {
+        let peer = self.end(end.peer());
+        let octets = match peer.forged(link, lane, numbers, body.as_slice(), z) {
+            Ok(octets) => octets,
+            Err(_) => return Err(StepFault::Memory),
+        };
+        self.hear(alloc, end, link, Some(octets.as_slice()), z)
+    }
+
     /// Lets an end do a command of a thread. The answer comes twice: for the caller and for the journal.
     ///
-    /// `Forged` exactly where a delivered frame opens and its sender has no booking of what it opens to.
+    /// `Forged` exactly where a frame that is heard opens and its sender has no booking of what it opens to.
     /// After an error nothing has changed. What is answered of a frame that is heard is told of an end
     /// that knows its peer's addresses; every other answer of any two ends.
     ///
-    /// Conditions: a body to be queued has 1 to 2,304 octets, no queue has 2^32 - 8,192 bodies or more,
-    /// and no window starts there or higher.
+    /// Conditions: a body to be queued or sealed has 1 to 2,304 octets, a sequence number is below 4,096, a
+    /// packet number 1 to 2^48 - 1, and a frame in the peer's name goes over one of its links; no queue has
+    /// 2^32 - 8,192 bodies or more, and no window starts there or higher.
     pub fn act<Z: Sealer>(
         &mut self,
         alloc: Global,
@@ -295,7 +459,7 @@ impl Air {
         command: &Command,
         z: &Z,
     ) -> Result<(Outcome, Outcome), StepFault>
-        requires fits { BodyFits command.now }
+        requires fits { CanDo command.now self.old }
         requires roomy { (e : EndId) → IsRoomy (end_of self.old e) }
         ensures answer { IfOk result (λ o. KnowsPeer command.now self.old → IsAnswer (Z.text z.now) thread command.now self.old o.0) }
         ensures unforged { IfOk result (λ o. KnowsPeer command.now self.old → (opened : Opened) → Forges (Z.text z.now) command.now self.old opened → ⊥) }
@@ -309,12 +473,45 @@ impl Air {
             Command::Reserve { end, lane } => both(self.end_mut(*end).reserve(thread, *lane)),
             Command::Book { end } => both(self.end_mut(*end).book(thread)),
             Command::Put { end, link } => both(self.end_mut(*end).put(thread, *link, z)),
+            Command::Again {
+                end,
+                link,
+                lane,
+                pos,
+            } => both(self.end_mut(*end).again(*link, *lane, *pos, z)),
             Command::Deliver { end, link, nth } => self.deliver(alloc, *end, *link, *nth, z),
+            Command::Alter {
+                end,
+                link,
+                nth,
+                number,
+            } => self.alter(alloc, *end, *link, *nth, *number, z),
+            Command::Forge {
+                end,
+                link,
+                lane,
+                key,
+                pn,
+                number,
+                body,
+            } => {
+                let numbers = Numbers {
+                    pos: u32::from(*number),
+                    key: *key,
+                    pn: *pn,
+                };
+                self.forge(alloc, *end, *link, *lane, numbers, body, z)
+            }
             Command::AckOut { end, lane } => match self.ack_out(alloc, *end, lane) {
                 Ok(both) => Ok(both),
                 Err(_) => Err(StepFault::Memory),
             },
             Command::AckIn { end, nth } => Ok(twice(self.ack_in(*end, *nth))),
+            Command::BarOut { end, lane, to } => both(self.bar_out(*end, lane, *to)),
+            Command::BarIn { end, nth } => match self.bar_in(alloc, *end, *nth) {
+                Ok(both) => Ok(both),
+                Err(_) => Err(StepFault::Memory),
+            },
             Command::Install { end } => Ok(twice(install(self.end_mut(*end)))),
             Command::Turn { end } => Ok(twice(turn(self.end_mut(*end)))),
         }

@@ -16,7 +16,7 @@ use wl_history::{Cursor, Script};
 impl World {
     /// Does all that a script asks for, in order, as thread 0.
     ///
-    /// `Forged` exactly where a frame is to be delivered that opens and that its sender never booked;
+    /// `Forged` exactly where a frame is to be heard that opens and that its sender never booked;
     /// the steps before it were made. After `Memory` the steps so far were made too.
     ///
     /// Conditions: with three steps for each thing asked for the journal has at most 1,048,576, and the

@@ -7,7 +7,7 @@ ghost use Rattle.wl_history.specs.Ends.{IsStart};
 ghost use Rattle.wl_history.specs.Legal.{Fits, Forges, step_limit};
 ghost use Rattle.wl_history.specs.Scripts.{step_of};
 ghost use Rattle.wl_history.specs.Safe.{Safe};
-ghost use Rattle.wl_air.specs.Acting.{BodyFits, IsStepFault};
+ghost use Rattle.wl_air.specs.Acting.{CanDo, IsStepFault};
 ghost use Rattle.wl_air.specs.World.{IsRoomy};
 
 use crate::air::Air;
@@ -18,7 +18,7 @@ use wl_elem::{EndId, Memory};
 use wl_end::End;
 use wl_frame::Sealer;
 use wl_history::{Arrival, Command, Journal, Outcome, Start, Step, Steps, every_history_is_safe};
-use wl_window::stored_near;
+use wl_window::{requested_near, stored_near};
 
 /// Two ends, the air between them, and the history of all steps that they made.
 #[derive(Debug, Drop)]
@@ -82,8 +82,8 @@ impl World {
 
     /// Lets an end do a command of a thread, and notes the step in the journal.
     ///
-    /// `Forged` exactly where a frame is delivered that opens, and its sender has no booking of this
-    /// key, nonce, additional data and body; `Memory` where there was none. Both leave the world as it
+    /// `Forged` exactly where a frame is heard that opens, and its sender has no booking of this key,
+    /// nonce, additional data and body; `Memory` where there was none. Both leave the world as it
     /// was. A world that stands for the sealer's meaning stands for it afterwards, and its history is
     /// safe.
     ///
@@ -107,6 +107,7 @@ impl World {
     {
         every_history_is_safe();
         stored_near::<Arrival>();
+        requested_near::<Arrival>();
         command.test();
         // The room for the step is taken first: what an end did can't be undone.
         self.journal.steps.push(Step {

@@ -1,7 +1,10 @@
--- What bodies are sealed under, and where a frame goes.
-use Rattle.std.specs.Prelude.{ℕ, Bool, true, false, List, []}
+-- What bodies are sealed under, where a frame goes, and what is asked of the peer.
+use Rattle.std.specs.Prelude.{ℕ, ◌%◌, Bool, true, false, List, [], Result, Ok, Err}
 use Rattle.wl_elem.specs.declared.lane.Lane.{Lane}
 use Rattle.wl_elem.specs.declared.lane.EndId.{EndId}
+use Rattle.wl_window.specs.Originating.{Sending}
+use Rattle.wl_window.specs.declared.refusal.MoveRefusal.{MoveRefusal}
+use Rattle.wl_history.specs.declared.ack.Bar.{Bar}
 use Rattle.wl_history.specs.declared.hand.Hand.{Hand}
 use Rattle.wl_history.specs.declared.hand.Hand.TheVariants as hand
 use Rattle.wl_history.specs.declared.opened.Opened.{Opened}
@@ -28,3 +31,8 @@ flown f body = airing f.link f.lane f.numbers f.retry body
 -- all that was sealed
 abbrev pub four_of : Under → List ℕ → Opened
 four_of u body = record { key = u.key; nonce = u.nonce; aad = u.aad; body = body }
+
+-- a request of a lane whose positions were given up so
+abbrev pub bar_of : Lane → Result Sending MoveRefusal → Result Bar MoveRefusal
+bar_of lane (Ok sending) = Ok (record { lane = lane; start = sending.base % 4096 })
+bar_of lane (Err why) = Err why

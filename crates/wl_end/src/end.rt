@@ -1,12 +1,12 @@
 //! Ends.
 
-ghost use Rattle.std.specs.Prelude.{◌≡◌, ◌==◌, is_err, ◌+◌, ◌-◌, ◌%◌, ◌^◌, ◌<◌, ◌≤◌, ℕ, Option, [], false, true, length, option_copied, IfOk, IfSome, IfNone, OnOk, OnErr};
+ghost use Rattle.std.specs.Prelude.{◌≡◌, ◌==◌, is_err, ◌+◌, ◌-◌, ◌%◌, ◌^◌, ◌<◌, ◌≤◌, ℕ, Option, [], false, true, length, option_copied, Some, IfOk, IfSome, IfNone, OnOk, OnErr};
 ghost use Rattle.wl_elem.specs.declared.lane.Lane.{Lane};
 ghost use Rattle.wl_elem.specs.Lanes.{lane_index, lane_count, IsLane};
 ghost use Rattle.wl_elem.specs.Links.{link_limit, has_link};
 ghost use Rattle.wl_number.specs.NumberObject.{InRange, position_of, is_spent, drawn, after_draw};
 ghost use Rattle.wl_number.specs.declared.numbers.Numbers.{Numbers};
-ghost use Rattle.wl_number.specs.OrderRule.{NoneBreaks, list_at, with_booking};
+ghost use Rattle.wl_number.specs.OrderRule.{NoneBreaks, list_at, list_of, with_booking};
 ghost use Rattle.std.specs.List.{Contains};
 ghost use Rattle.wl_number.specs.Bookings.{booking_count};
 ghost use Rattle.wl_window.specs.Reordering.{stored_numbers};
@@ -15,7 +15,7 @@ ghost use Rattle.wl_history.specs.declared.hand.Hand.{Hand};
 ghost use Rattle.wl_history.specs.declared.hand.Hand.TheVariants.{Reserve as HoldsReserve, Booking as HoldsBooking};
 ghost use Rattle.wl_history.specs.Hands.{hand_of};
 ghost use Rattle.wl_history.specs.Answers.{last_key, reserve_answer, book_answer};
-ghost use Rattle.wl_history.specs.Ends.{send_size, receive_size, is_set_up};
+ghost use Rattle.wl_history.specs.Ends.{send_size, receive_size, is_set_up, is_link};
 ghost use Rattle.wl_history.specs.Plain.{IsPlain, FitsIn};
 ghost use Rattle.wl_history.specs.Words.{at, last_of};
 ghost use Rattle.wl_elem.specs.Element.{msdu_limit};
@@ -32,11 +32,12 @@ use std::marker::Model;
 use wl_elem::{Bytes, EndId, KeysSpent, Lane, LinkId, LinkSet, Memory, Tid};
 use wl_frame::{Sealer, decode_frame};
 use wl_history::{
-    Ack, Arrival, EndStart, Hand, KeptWhy, Opened, Outcome, SequenceNumbers, Setup, an_end_keeps,
+    Ack, Arrival, Bar, EndStart, Hand, KeptWhy, Opened, Outcome, SequenceNumbers, Setup,
+    a_booking_is_found, an_end_keeps,
 };
 use wl_number::{Bookings, NumberState, Numbers, a_draw_is_next, booked_once, highest_breaks_none};
 use wl_replay::{KeyRing, ReplayGuard};
-use wl_window::OriginRefusal;
+use wl_window::{MoveRefusal, OriginRefusal};
 
 /// One end of an association: an AP MLD or a station MLD.
 ///
@@ -127,11 +128,12 @@ fn enter(booked: &mut Bookings, lane: &Lane, n: Numbers)
 }
 
 impl End {
-    ghost use Rattle.wl_history.specs.EndState.{EndState, IsEnd, lane_at, frames_on, started, after_queue, after_reserve, after_book, after_put, put_down, was_aired_at, hear_answer, after_hear, acked_by, after_ack, after_install, after_turn};
+    ghost use Rattle.wl_history.specs.EndState.{EndState, IsEnd, lane_at, frames_on, started, after_queue, after_reserve, after_book, after_put, put_down, with_frame, after_again, was_aired_at, hear_answer, after_hear, acked_by, after_ack, given_by, after_bar_out, moved_by, after_moved, after_install, after_turn};
     ghost use Rattle.wl_end.specs.Parts.{frame_count};
     ghost use Rattle.wl_end.specs.Peeking.{IsPeek, PeekFits, IsBookingOf};
-    ghost use Rattle.wl_history.specs.Answers.{put_of, aired_octets};
-    ghost use Rattle.wl_end.specs.Putting.{is_booking};
+    ghost use Rattle.wl_history.specs.Answers.{put_of, aired_octets, booked_at, again_of, octets_again, moved_answer};
+    ghost use Rattle.wl_history.specs.Hearing.{forged};
+    ghost use Rattle.wl_end.specs.Putting.{is_booking, bar_of};
 
     /// An end that did nothing yet. `Memory` where there was none for its windows.
     ///
@@ -276,20 +278,27 @@ impl End {
         }
     }
 
-    /// Airs the booking of a lane in a hand over a link that is set up, and says whether it was aired
-    /// before.
-    fn air<Z: Sealer>(
+    /// The numbers booked at a position of a lane. None exactly where there are none.
+    fn booked_at(&self, lane: &Lane, pos: u32) -> Option<Numbers>
+        ensures value { result ≡ booked_at self.now lane.now pos }
+        ensures there { IfSome result (Contains (list_of self.now.booked lane.now)) }
+    {
+        a_booking_is_found();
+        self.booked.at(*lane, pos)
+    }
+
+    /// Airs a booking of a lane over a link that is set up, and says whether it was aired before.
+    fn frame<Z: Sealer>(
         &mut self,
-        thread: u16,
         link: LinkId,
         lane: &Lane,
         n: &Numbers,
         z: &Z,
     ) -> Result<bool, Memory>
-        requires held { hand_of self.old.hands thread ≡ HoldsBooking lane.now n.now }
+        requires booked { Contains (list_of self.old.booked lane.now) n.now }
         requires set_up { is_set_up self.old.setup link ≡ true }
         ensures retry { IfOk result (λ retry. retry ≡ was_aired_at (lane_at self.old (lane_index lane.now)).aired n.now.pos) }
-        ensures after { IfOk result (λ retry. self.new ≡ after_put thread link (aired_octets (Z.text z.now) link (hand_of self.old.hands thread) self.old) (Outcome.Put lane.now n.now retry) self.old) }
+        ensures after { OnOk result (self.new ≡ with_frame link (octets_again (Z.text z.now) link lane.now (Some n.now) self.old) lane.now n.now self.old) }
         ensures unchanged { OnErr result (self.new ≡ self.old) }
         ensures sound { IsEnd self.new }
     {
@@ -311,6 +320,30 @@ impl End {
         let octets = frame_octets(self.alloc, &self.start, &on, &flight, kept.body(n.pos), z)?;
         self.frames.push(link, octets)?;
         self.lanes.at_mut(lane).air(n.pos);
+        Ok(retry)
+    }
+
+    /// Airs the booking of a lane in a hand over a link that is set up, and says whether it was aired
+    /// before.
+    fn air<Z: Sealer>(
+        &mut self,
+        thread: u16,
+        link: LinkId,
+        lane: &Lane,
+        n: &Numbers,
+        z: &Z,
+    ) -> Result<bool, Memory>
+        requires held { hand_of self.old.hands thread ≡ HoldsBooking lane.now n.now }
+        requires set_up { is_set_up self.old.setup link ≡ true }
+        ensures retry { IfOk result (λ retry. retry ≡ was_aired_at (lane_at self.old (lane_index lane.now)).aired n.now.pos) }
+        ensures after { IfOk result (λ retry. self.new ≡ after_put thread link (aired_octets (Z.text z.now) link (hand_of self.old.hands thread) self.old) (Outcome.Put lane.now n.now retry) self.old) }
+        ensures unchanged { OnErr result (self.new ≡ self.old) }
+        ensures sound { IsEnd self.new }
+    {
+        an_end_keeps();
+        // What a hand holds is booked.
+        self.test();
+        let retry = self.frame(link, lane, n, z)?;
         self.hands.replace(thread, Hand::Empty);
         Ok(retry)
     }
@@ -361,6 +394,72 @@ impl End {
             }),
             Err(e) => Err(e),
         }
+    }
+
+    /// Sends the booking at a position of a lane over a link, again or for the first time: the same sealed
+    /// payload, whatever link it went over before and whatever key is sent under by now. No hand changes.
+    ///
+    /// Nothing where the position isn't booked or is done, KeptAgain where the link isn't set up; they
+    /// change nothing. After `Memory` nothing has changed.
+    pub fn again<Z: Sealer>(
+        &mut self,
+        link: LinkId,
+        lane: Lane,
+        pos: u32,
+        z: &Z,
+    ) -> Result<Outcome, Memory>
+        ensures answer { IfOk result (λ o. o ≡ again_of link lane (booked_at self.old lane pos) self.old) }
+        ensures plain { IfOk result IsPlain }
+        ensures after { IfOk result (λ o. self.new ≡ after_again link lane (octets_again (Z.text z.now) link lane (booked_at self.old lane pos) self.old) o self.old) }
+        ensures unchanged { OnErr result (self.new ≡ self.old) }
+        ensures sound { IsEnd self.new }
+    {
+        let Some(numbers) = self.booked_at(&lane, pos) else {
+            return Ok(Outcome::Nothing);
+        };
+        if self.lanes.at(&lane).is_done(numbers.pos) {
+            return Ok(Outcome::Nothing);
+        }
+        if !self.setup.links.has(link) {
+            return Ok(Outcome::KeptAgain {
+                why: KeptWhy::NotSetUp,
+            });
+        }
+        match self.frame(link, &lane, &numbers, z) {
+            Ok(retry) => Ok(Outcome::PutAgain { numbers, retry }),
+            Err(e) => Err(e),
+        }
+    }
+
+    /// The octets of a frame in this end's name, sealed as if it had booked these numbers for this body:
+    /// what anybody can put on the air who has the key. Nothing changes.
+    ///
+    /// Conditions: the link is one of the end's, the packet number is 1 to 2^48 - 1, and the body has at
+    /// most 2,304 octets.
+    pub fn forged<Z: Sealer>(
+        &self,
+        link: LinkId,
+        lane: Lane,
+        numbers: Numbers,
+        body: &[u8],
+        z: &Z,
+    ) -> Result<Bytes, Memory>
+        requires known { is_link self.now.start link ≡ true }
+        requires range { InRange numbers }
+        requires short { length body.now ≤ msdu_limit }
+        ensures { IfOk result (λ o. o ≡ forged (Z.text z.now) self.now.start link lane numbers body.now) }
+    {
+        let flight = Flight {
+            link,
+            lane,
+            numbers,
+            retry: false,
+        };
+        let on = match link_at(self.start.links.as_slice(), link) {
+            Some(on) => on,
+            None => unreachable!(),
+        };
+        frame_octets(self.alloc, &self.start, &on, &flight, body, z)
     }
 
     /// What is seen of octets that came over a link: why nothing is opened, by the first of these that
@@ -509,6 +608,56 @@ impl End {
         self.lanes
             .at_mut(&ack.lane)
             .ack(ack.start, ack.stored.as_slice())
+    }
+
+    /// Gives all positions of a lane below `to` up, so that they are done, and asks the peer to move its
+    /// window past them. It takes no memory.
+    ///
+    /// NotBooked exactly where one of them isn't booked, Behind exactly where all are and are done; both
+    /// change nothing.
+    pub fn bar_out(&mut self, lane: Lane, to: u32) -> Result<Bar, MoveRefusal>
+        ensures answer { result ≡ bar_of lane (given_by lane to self.old) }
+        ensures after { self.new ≡ after_bar_out lane to self.old }
+        ensures sound { IsEnd self.new }
+    {
+        an_end_keeps();
+        test_lane(&lane);
+        match self.lanes.at_mut(&lane).advance(to) {
+            Ok(base) => Ok(Bar {
+                lane,
+                start: (base % 4096) as u16,
+            }),
+            Err(why) => Err(why),
+        }
+    }
+
+    /// Takes a request of the peer to move a lane's window. Of what goes up then, each body above the last
+    /// one released is released. After `Memory` nothing has changed.
+    ///
+    /// OldBar where the window starts there, or 2,048 and more past it; then nothing changes.
+    ///
+    /// Condition: the lane's window starts below 2^32 - 8,192.
+    pub fn bar_in(&mut self, bar: &Bar) -> Result<Outcome, Memory>
+        requires { (lane_at self.old (lane_index bar.now.lane)).window.start < 2 ^ 32 - 8192 }
+        ensures answer { IfOk result (λ o. o ≡ moved_answer bar.now (moved_by bar.now self.old) self.old) }
+        ensures fits { IfOk result (FitsIn (length (lane_at self.old (lane_index bar.now.lane)).window.slots)) }
+        ensures after { OnOk result (self.new ≡ after_moved bar.now.lane (moved_by bar.now self.old) self.old) }
+        ensures unchanged { OnErr result (self.new ≡ self.old) }
+        ensures sound { IsEnd self.new }
+    {
+        an_end_keeps();
+        test_lane(&bar.lane);
+        let (lane, start) = (bar.lane, bar.start);
+        let guard = &mut self.guard;
+        let asked = self
+            .lanes
+            .at_mut(&lane)
+            .request(self.alloc, &lane, start, guard);
+        match asked {
+            Ok(Some(up)) => Ok(Outcome::Moved { lane, start, up }),
+            Ok(None) => Ok(Outcome::OldBar),
+            Err(e) => Err(e),
+        }
     }
 
     /// The frame of this number on a link, from 0. None exactly where fewer were aired there.

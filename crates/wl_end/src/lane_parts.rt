@@ -1,12 +1,12 @@
 //! One lane of an end.
 
-ghost use Rattle.std.specs.Prelude.{◌≡◌, ◌+◌, ◌-◌, ◌^◌, ◌<◌, ◌≤◌, ◌++◌, ◌∷◌, [], false, length, IfOk, OnOk, OnErr};
-ghost use Rattle.wl_window.specs.Reordering.{IsStore, arrived, stored_numbers};
-ghost use Rattle.wl_window.specs.Originating.{Sending, IsSending, is_done, is_booked, booked_count, reserved, with_booked, acked, sending_after, granted_answer, newly_answer, sending_acked};
+ghost use Rattle.std.specs.Prelude.{◌≡◌, ◌+◌, ◌-◌, ◌^◌, ◌<◌, ◌≤◌, ◌++◌, ◌∷◌, [], false, length, IfOk, IfSome, OnOk, OnErr};
+ghost use Rattle.wl_window.specs.Reordering.{IsStore, arrived, requested, stored_numbers};
+ghost use Rattle.wl_window.specs.Originating.{Sending, IsSending, is_done, is_booked, booked_count, reserved, with_booked, acked, given_up, base_answer, sending_after, granted_answer, newly_answer, sending_acked};
 ghost use Rattle.wl_elem.specs.Lanes.{lane_index};
 ghost use Rattle.wl_replay.specs.Replay.{last_of};
 ghost use Rattle.wl_history.specs.Words.{body_at};
-ghost use Rattle.wl_end.specs.Listening.{heard_of, HeardFits, lane_after, pairs_after};
+ghost use Rattle.wl_end.specs.Listening.{heard_of, HeardFits, lane_after, pairs_after, up_of, lane_passed, pairs_passed};
 
 use crate::bodies::Bodies;
 use crate::entries::fill;
@@ -16,7 +16,7 @@ use std::marker::Model;
 use wl_elem::{Bytes, Lane, Memory};
 use wl_history::{Arrival, Positions};
 use wl_replay::ReplayGuard;
-use wl_window::{ArriveRefusal, Numbers12, Origin, OriginRefusal, Reorder, Ups};
+use wl_window::{ArriveRefusal, MoveRefusal, Numbers12, Origin, OriginRefusal, Reorder, Ups};
 
 /// What an end keeps of a lane: the sender's side, and the receiver's.
 #[derive(Debug, Drop)]
@@ -162,6 +162,14 @@ impl LaneParts {
         self.origin.ack(start, stored)
     }
 
+    /// Gives all positions below this one up. The new base; where it is refused nothing changes.
+    pub fn advance(&mut self, to: u32) -> Result<u32, MoveRefusal>
+        ensures answer { result ≡ base_answer (given_up self.old.sending to) }
+        ensures after { self.new ≡ record self.old { sending = sending_after self.old.sending (given_up self.old.sending to) } }
+    {
+        self.origin.advance(to)
+    }
+
     /// The first number that was neither passed up nor given up, in full.
     pub fn start(&self) -> u32
         ensures { result ≡ self.now.window.start }
@@ -226,5 +234,33 @@ impl LaneParts {
         }
         release(&mut self.ups, guard, lane, &mut self.released, &mut up);
         Ok(Heard::Stored(Positions::from_vec(up)))
+    }
+    /// Moves the window to these 12 bits, and releases what goes up and is above the lane's last pair. None
+    /// exactly where it doesn't move; then nothing changes. After `Memory` nothing has changed.
+    pub fn request(
+        &mut self,
+        alloc: Global,
+        lane: &Lane,
+        start: u16,
+        guard: &mut ReplayGuard,
+    ) -> Result<Option<Positions>, Memory>
+        requires place { lane_index lane.now < length guard.old }
+        requires low { self.old.window.start < 2 ^ 32 - 4096 }
+        ensures up { IfOk result (λ up. up ≡ up_of (last_of guard.old lane.now) (requested self.old.window start)) }
+        ensures fits { IfOk result (λ up. IfSome up (λ ps. length ps ≤ length self.old.window.slots)) }
+        ensures after { OnOk result (self.new ≡ lane_passed (last_of guard.old lane.now) (requested self.old.window start) self.old) }
+        ensures pairs { OnOk result (guard.new ≡ pairs_passed lane.now (requested self.old.window start) guard.old) }
+        ensures unchanged { OnErr result (self.new ≡ self.old) }
+        ensures same_pairs { OnErr result (guard.new ≡ guard.old) }
+    {
+        let most = self.reorder.due_on_request(start);
+        let mut up = Vec::with_capacity(alloc, usize::from(most))?;
+        self.released.reserve(usize::from(most))?;
+        self.ups.reserve(most)?;
+        if !self.reorder.request(start, &mut self.ups) {
+            return Ok(None);
+        }
+        release(&mut self.ups, guard, lane, &mut self.released, &mut up);
+        Ok(Some(Positions::from_vec(up)))
     }
 }

@@ -1,20 +1,12 @@
 //! The nine lanes of an end.
 
-ghost use Rattle.std.specs.Prelude.{◌≡◌, ◌+◌, ◌-◌, ◌^◌, ◌<◌, ◌≤◌, ◌++◌, ◌∷◌, [], false, length, IfOk, OnOk, OnErr, slice_index_or, slice_set};
+ghost use Rattle.std.specs.Prelude.{◌≡◌, ◌<◌, length, IfOk};
 ghost use Rattle.wl_elem.specs.Lanes.{lane_index, lane_count};
-ghost use Rattle.wl_replay.specs.Replay.{last_of};
-ghost use Rattle.wl_window.specs.Reordering.{arrived};
-ghost use Rattle.wl_window.specs.Originating.{Sending, is_booked, booked_count, reserved, with_booked, acked, sending_after, granted_answer, newly_answer, sending_acked};
-ghost use Rattle.wl_end.specs.Listening.{heard_of, HeardFits, lane_after, pairs_after};
 
-use crate::heard::Heard;
 use crate::lane_parts::LaneParts;
 use std::alloc::Global;
 use std::marker::Model;
-use wl_elem::{Bytes, Lane, Memory};
-use wl_history::Arrival;
-use wl_replay::ReplayGuard;
-use wl_window::OriginRefusal;
+use wl_elem::{Lane, Memory};
 
 /// The greatest size of the window of a lane of data.
 const DATA_ROOM: u16 = 256;
@@ -52,9 +44,8 @@ impl Model for Lanes {
 impl Lanes {
     ghost use Rattle.std.specs.Borrow.{sem};
     ghost use Rattle.wl_end.specs.Lending.{LendsLane};
-    ghost use Rattle.wl_history.specs.EndState.{aired_at};
     ghost use Rattle.wl_history.specs.EndState.{no_lanes};
-    ghost use Rattle.wl_end.specs.Parts.{IsShort, lane_of, with_lane_of};
+    ghost use Rattle.wl_end.specs.Parts.{lane_of};
 
     /// Nothing is queued or received on any lane.
     pub fn new(alloc: Global) -> Result<Lanes, Memory>

@@ -24,7 +24,7 @@ use Rattle.wl_history.specs.declared.outcome.KeptWhy.TheVariants.{NotSetUp}
 use Rattle.wl_history.specs.declared.setup.Setup.{Setup}
 use Rattle.wl_history.specs.declared.start.EndStart.{EndStart}
 use Rattle.wl_history.specs.Plain.{IsPlain}
-use Rattle.wl_history.specs.Answers.{is_empty, granted_outcome, reserve_answer, book_answer, put_answer}
+use Rattle.wl_history.specs.Answers.{is_empty, granted_outcome, reserve_answer, book_answer, put_answer, again_answer, at_position}
 use Rattle.wl_history.specs.Hearing.{Closed, Judged, Answered, ToOpen, with_key, judged_protected, judged_kind, judged, is_of, booking_of, is_own_way}
 use Rattle.wl_history.specs.Ends.{is_set_up, link_address}
 use Rattle.wl_elem.specs.declared.why.Why.TheVariants.{WrongAddress}
@@ -66,6 +66,20 @@ pub put_cases : (P : Outcome → Type 0) (lane : Lane) (n : Numbers) (done aired
 put_cases P lane n true aired up none kept put = none
 put_cases P lane n false aired true none kept put = put refl
 put_cases P lane n false aired false none kept put = kept
+
+pub again_cases : (P : Outcome → Type 0) (n : Numbers) (done aired up : Bool) → P outcomes.Nothing → P (outcomes.KeptAgain NotSetUp) → (up ≡ true → P (outcomes.PutAgain n aired)) → P (again_answer n done aired up)
+again_cases P n true aired up none kept put = none
+again_cases P n false aired true none kept put = put refl
+again_cases P n false aired false none kept put = kept
+
+at_by : (b : Bool) (pos : ℕ) (m n : Numbers) (ms : List Numbers) → (at_position pos ms ≡ Some n → Contains ms n) → (if b then Some m else at_position pos ms) ≡ Some n → Contains (m ∷ ms) n
+at_by true pos m n ms more found = let same : m ≡ n = cc in (0, omega arith, same)
+at_by false pos m n ms more found = let old = more found in (suc old.0, omega (arith, old.1), old.2)
+
+-- the numbers at a position are among those of the lane
+pub at_there : (pos : ℕ) (ns : List Numbers) (n : Numbers) → at_position pos ns ≡ Some n → Contains ns n
+at_there pos [] n found = absurd (cc found)
+at_there pos (m ∷ ms) n found = at_by (m.pos == pos) pos m n ms (at_there pos ms n) found
 
 -- ---- hearing
 

@@ -1,5 +1,5 @@
 -- What each call keeps of an end.
-use Rattle.std.proofs.Common.{◌≡◌, ◌≢◌, ℕ, zero, suc, ◌+◌, ◌-◌, ◌<◌, ◌≤◌, Bool, true, false, eq-eqb, List, [], ◌∷◌, ◌++◌, length, get_or, set, Option, Some, None, refl, sym, ap, subst, ◌∙◌, arith, inl, inr, length-append}
+use Rattle.std.proofs.Common.{◌≡◌, ◌≢◌, ℕ, zero, suc, ◌+◌, ◌-◌, ◌<◌, ◌≤◌, Bool, true, false, eq-eqb, List, [], ◌∷◌, ◌++◌, length, get_or, set, Option, Some, None, Result, Ok, Err, refl, sym, ap, subst, ◌∙◌, arith, inl, inr, length-append}
 use Rattle.std.specs.Prelude.{◌⊎◌, if◌then◌else◌, slice_set}
 use Rattle.std.proofs.lemmas.Bool.{ne_eqb}
 use Rattle.std.proofs.lemmas.List.{length-set}
@@ -11,8 +11,9 @@ use Rattle.wl_number.specs.NumberObject.{NumberObject, drawn, after_draw}
 use Rattle.wl_number.specs.OrderRule.{with_booking}
 use Rattle.wl_replay.specs.declared.replay.Pair.{Pair}
 use Rattle.wl_replay.specs.Replay.{is_above, last_of}
-use Rattle.wl_window.specs.Reordering.{Arrived, Old, Doubled, Stored, arrived}
+use Rattle.wl_window.specs.Reordering.{Arrived, Moved, Old, Doubled, Stored, arrived}
 use Rattle.wl_window.specs.Originating.{Sending, Acked, Keeps, with_booked}
+use Rattle.wl_window.specs.declared.refusal.MoveRefusal.{MoveRefusal}
 use Rattle.wl_history.specs.declared.ack.Ack.{Ack}
 use Rattle.wl_history.specs.declared.arrival.Arrival.{Arrival}
 use Rattle.wl_history.specs.declared.hand.Hand.{Hand}
@@ -23,7 +24,7 @@ use Rattle.wl_history.specs.Hands.{hand_of, set_hand, reserves, bit}
 use Rattle.wl_history.specs.Ends.{receive_size}
 use Rattle.wl_history.specs.Sender.{IsSender, IsGapless, Regranted}
 use Rattle.wl_history.specs.Words.{body_at}
-use Rattle.wl_history.specs.EndState.{EndState, LaneState, IsEnd, lane_at, frames_on, no_lane, with_lane, with_hand, with_frame, aired_at, let_up, after_queue, after_reserve, after_book, after_arrived, after_hear, after_acked, after_ack, after_install, after_turn, acked_by}
+use Rattle.wl_history.specs.EndState.{EndState, LaneState, IsEnd, lane_at, frames_on, no_lane, with_lane, with_hand, with_frame, aired_at, let_up, after_queue, after_reserve, after_book, after_arrived, after_hear, after_acked, after_ack, after_given, after_bar_out, after_moved, after_install, after_turn, acked_by, given_by}
 use Rattle.wl_history.proofs.Hands.{count_set}
 use Rattle.wl_history.specs.Below.{NumberLaws, WindowLaws}
 use Rattle.wl_history.proofs.Sender.{lane_within, still_sender, turned_sender, emptied, reserving}
@@ -203,12 +204,15 @@ puts_down s thread lane n is held =
       roomy = is.roomy;
     }
 
-pub aired_so : (s : EndState) (thread : ℕ) (lane : Lane) (n : Numbers) (link : ℕ) (octets : List ℕ) → IsEnd s → hand_of s.hands thread ≡ Booking lane n → IsEnd (with_hand thread Empty (with_frame link octets lane n s))
-aired_so s thread lane n link octets is held =
+-- ---- a frame is aired
+
+pub framed_kept : (s : EndState) (lane : Lane) (n : Numbers) (link : ℕ) (octets : List ℕ) → IsEnd s → IsEnd (with_frame link octets lane n s)
+framed_kept s lane n link octets is =
     let k = lane_index lane in
-    let sound : IsEnd (with_frame link octets lane n s) =
-    lane_stays s k (record (lane_at s k) { aired = aired_at n.pos (lane_at s k).aired }) s.last (slice_set s.frames link (frames_on s link ++ octets ∷ [])) is (is.short k) refl (omega arith) (keeps_itself (lane_at s k).sending) is.nine_pairs (length-set s.frames link (frames_on s link ++ octets ∷ []) ∙ is.fifteen) in
-    puts_down (with_frame link octets lane n s) thread lane n sound held
+    lane_stays s k (record (lane_at s k) { aired = aired_at n.pos (lane_at s k).aired }) s.last (slice_set s.frames link (frames_on s link ++ octets ∷ [])) is (is.short k) refl (omega arith) (keeps_itself (lane_at s k).sending) is.nine_pairs (length-set s.frames link (frames_on s link ++ octets ∷ []) ∙ is.fifteen)
+
+pub aired_so : (s : EndState) (thread : ℕ) (lane : Lane) (n : Numbers) (link : ℕ) (octets : List ℕ) → IsEnd s → hand_of s.hands thread ≡ Booking lane n → IsEnd (with_hand thread Empty (with_frame link octets lane n s))
+aired_so s thread lane n link octets is held = puts_down (with_frame link octets lane n s) thread lane n (framed_kept s lane n link octets is) held
 
 -- ---- keys
 
@@ -255,3 +259,18 @@ acked_kept windows ack s (Some a) e is =
 
 pub ack_kept : WindowLaws → (ack : Ack) (s : EndState) → IsEnd s → IsEnd (after_ack ack s)
 ack_kept windows ack s is = acked_kept windows ack s (acked_by ack s) refl is
+
+-- ---- giving up and moving a window
+
+given_so : WindowLaws → (lane : Lane) (to : ℕ) (s : EndState) (given : Result Sending MoveRefusal) → given_by lane to s ≡ given → IsEnd s → IsEnd (after_given lane given s)
+given_so windows lane to s (Err why) e is = is
+given_so windows lane to s (Ok sending) e is =
+    let k = lane_index lane in
+    lane_stays s k (sent_lane s k sending) s.last s.frames is (is.short k) refl (omega arith) (windows.giving_up (lane_at s k).sending sending to e) is.nine_pairs is.fifteen
+
+pub given_kept : WindowLaws → (lane : Lane) (to : ℕ) (s : EndState) → IsEnd s → IsEnd (after_bar_out lane to s)
+given_kept windows lane to s is = given_so windows lane to s (given_by lane to s) refl is
+
+pub moved_kept : (lane : Lane) (moved : Option (Moved Arrival)) (s : EndState) → IsEnd s → IsEnd (after_moved lane moved s)
+moved_kept lane None s is = is
+moved_kept lane (Some moved) s is = arrived_kept s lane (Stored moved) is

@@ -1,13 +1,14 @@
 -- What nine lists hold of each lane, after one lane's list changes.
-use Rattle.std.proofs.Common.{◌≡◌, ℕ, zero, suc, ◌<◌, Bool, true, false, eq-eqb, List, [], ◌∷◌, length, get_or, refl, sym, ap, subst, arith, inl, inr}
+use Rattle.std.proofs.Common.{◌≡◌, ℕ, zero, suc, ◌<◌, Bool, true, false, eq-eqb, List, [], ◌∷◌, Option, Some, None, length, get_or, refl, sym, ap, subst, ◌∙◌, arith, inl, inr}
 use Rattle.std.specs.Prelude.{◌⊎◌, ◌==◌, nat_lt, if◌then◌else◌, slice_set}
-use Rattle.std.specs.List.{Contains}
-use Rattle.std.proofs.lemmas.Bool.{eqb-true, both_ways, cases_Bool}
+use Rattle.std.specs.List.{AllByRecursion, Contains}
+use Rattle.std.proofs.lemmas.Bool.{eqb-true, ne_eqb, both_ways, cases_Bool}
 use Rattle.std.proofs.lemmas.List.{get_or-set_same, get_or-set_other}
 use Rattle.wl_elem.specs.declared.lane.Lane.{Lane}
 use Rattle.wl_elem.specs.Lanes.{lane_index, at_place}
 use Rattle.wl_number.specs.declared.numbers.Numbers.{Numbers}
-use Rattle.wl_number.specs.OrderRule.{list_at, list_of, entered_in, with_booking}
+use Rattle.wl_number.specs.OrderRule.{Ascending, Precedes, list_at, list_of, entered_in, with_booking}
+use Rattle.wl_history.specs.Answers.{at_position}
 
 -- what stands at another place, or the same, after a list is set
 pub set_at : {A : Type 0} (xs : List A) (i j : ℕ) (x d : A) → i < length xs → get_or (slice_set xs i x) j d ≡ (if i == j then x else get_or xs j d)
@@ -82,3 +83,19 @@ length_entered n (x ∷ xs) =
       | true ↦ ap suc (length_entered n xs)
       | false ↦ refl
     ]
+
+-- ---- by position
+
+all_above : (n : Numbers) (ns : List Numbers) → AllByRecursion (Precedes n) ns → (m : Numbers) → Contains ns m → n.pos < m.pos
+all_above n [] h m (k, lt, is) = absurd (omega (arith, lt))
+all_above n (x ∷ xs) h m (zero, lt, is) = let above = h.0.position in omega (arith, above, ap (λ (y : Numbers). y.pos) is)
+all_above n (x ∷ xs) h m (suc k, lt, is) = all_above n xs h.1 m (k, omega (arith, lt), is)
+
+-- a booking is found at its position
+pub found_in : (ns : List Numbers) → Ascending ns → (n : Numbers) → Contains ns n → at_position n.pos ns ≡ Some n
+found_in [] h n (k, lt, is) = absurd (omega (arith, lt))
+found_in (x ∷ xs) h n (zero, lt, is) = ap (λ (b : Bool). if b then Some x else at_position n.pos xs) (eq-eqb x.pos n.pos (ap (λ (y : Numbers). y.pos) is)) ∙ ap Some is
+found_in (x ∷ xs) h n (suc k, lt, is) =
+    let later : Contains xs n = (k, omega (arith, lt), is) in
+    let above = all_above x xs h.0 n later in
+    ap (λ (b : Bool). if b then Some x else at_position n.pos xs) (ne_eqb x.pos n.pos (λ e. omega (arith, e, above))) ∙ found_in xs h.1 n later

@@ -9,6 +9,8 @@ pub mod Receiving
 pub mod Cases
 pub mod Sound
 pub mod Safety
+pub mod Sent
+pub mod Numbered
 pub mod Once
 pub mod Opening
 pub mod Cursors

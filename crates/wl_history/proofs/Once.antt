@@ -11,7 +11,7 @@ use Rattle.wl_history.specs.declared.outcome.Outcome.{Outcome}
 use Rattle.wl_history.specs.declared.start.Start.{Start}
 use Rattle.wl_history.specs.declared.step.Step.{Step}
 use Rattle.wl_history.specs.EndState.{EndState}
-use Rattle.wl_history.specs.AirState.{AirState, end_of, octets_named, state_of}
+use Rattle.wl_history.specs.AirState.{AirState, end_of, octets_heard, state_of}
 use Rattle.wl_history.specs.Legal.{judged_at, judged_answer, HeardIf, IsAnswer, Legal}
 use Rattle.wl_history.specs.Scripts.{Asked, asked}
 
@@ -24,7 +24,9 @@ heard_once once text s sender link (Some octets) o p (reading, read, is) (other,
     is ∙ ap (λ (r : Result FrameValue Refusal). judged_answer text s sender (judged_at s link r)) (once octets reading other read read') ∙ sym is'
 
 pub answered_once : ReadOnce → (text : Sealing) (thread : ℕ) (command : Command) (a : AirState) (o p : Outcome) → IsAnswer text thread command a o → IsAnswer text thread command a p → o ≡ p
-answered_once once text thread (commands.Deliver end link nth) a o p x y = heard_once once text (end_of a end) (end_of a (peer_of end)) link (octets_named a end link nth) o p x y
+answered_once once text thread (commands.Deliver end link nth) a o p x y = heard_once once text (end_of a end) (end_of a (peer_of end)) link (octets_heard text (commands.Deliver end link nth) a) o p x y
+answered_once once text thread (commands.Alter end link nth number) a o p x y = heard_once once text (end_of a end) (end_of a (peer_of end)) link (octets_heard text (commands.Alter end link nth number) a) o p x y
+answered_once once text thread (commands.Forge end link lane key pn number body) a o p x y = heard_once once text (end_of a end) (end_of a (peer_of end)) link (octets_heard text (commands.Forge end link lane key pn number body) a) o p x y
 answered_once once text thread other a o p x y = x ∙ sym y
 
 abbrev made : ℕ → Command → Outcome → Step

@@ -1,15 +1,15 @@
 -- What a lane receives: whatever holds of each item that comes, holds of each that is stored or
 -- released, and the released ones rise by key and packet number.
-use Rattle.std.proofs.Common.{◌≡◌, ℕ, ◌+◌, ◌-◌, Bool, true, false, List, [], ◌∷◌, refl}
-use Rattle.std.specs.Prelude.{nat_lt, nat_le, max, if◌then◌else◌}
+use Rattle.std.proofs.Common.{◌≡◌, ℕ, ◌+◌, ◌-◌, Bool, true, false, List, [], ◌∷◌, Option, Some, None, refl}
+use Rattle.std.specs.Prelude.{◌==◌, nat_lt, nat_le, max, if◌then◌else◌}
 use Rattle.std.specs.List.{AllByRecursion}
 use Rattle.wl_number.specs.declared.numbers.Numbers.{Numbers}
 use Rattle.wl_number.specs.OrderRule.{is_below}
 use Rattle.wl_window.specs.declared.slot.Slot.{Slot}
-use Rattle.wl_window.specs.Numbering.{full}
-use Rattle.wl_window.specs.Reordering.{Window, holds, placed, below, from, items, run_end, Moved, Arrived, Old, Doubled, Stored, advanced, arrived}
+use Rattle.wl_window.specs.Numbering.{full, distance}
+use Rattle.wl_window.specs.Reordering.{Window, holds, placed, below, from, items, run_end, Moved, Arrived, Old, Doubled, Stored, advanced, arrived, requested}
 use Rattle.wl_history.specs.declared.arrival.Arrival.{Arrival}
-use Rattle.wl_history.specs.Words.{Receiving, is_new, release, release_all, taken}
+use Rattle.wl_history.specs.Words.{Receiving, is_new, release, release_all, passed, taken, passed_if}
 
 pub every : {A : Type 0} (P Q : A → Type 0) → ((x : A) → P x → Q x) → (xs : List A) → AllByRecursion P xs → AllByRecursion Q xs
 every P Q f [] h = tt
@@ -75,6 +75,19 @@ module _ (Good : Arrival → Type 0) where
       kept_two (nat_le (w.start + 2048) (full w.start number)) (holds (full w.start number) w.slots) _
       (kept_advanced (max w.start (full w.start number + 1 - size)) (placed (record { number = full w.start number; item = item }) w.slots) (kept_placed (record { number = full w.start number; item = item }) w.slots good h))
 
+  abbrev pub KeptIf : Option (Moved Arrival) → Type 0
+  KeptIf None = Unit {0}
+  KeptIf (Some moved) = KeptMoved moved
+
+  kept_asked : (none near : Bool) (moved : Moved Arrival) → KeptMoved moved → KeptIf (if none then None else (if near then Some moved else None))
+  kept_asked true near moved h = tt
+  kept_asked false true moved h = h
+  kept_asked false false moved h = tt
+
+  kept_requested : (w : Window Arrival) (start : ℕ) → Kept w.slots → KeptIf (requested w start)
+  unfolding requested
+  kept_requested w start h = kept_asked (distance w.start start == 0) (nat_lt (distance w.start start) 2048) _ (kept_advanced (w.start + distance w.start start) w.slots h)
+
   released_kept : (item : Arrival) (released : List Arrival) → Good item → AllByRecursion Good released → AllByRecursion Good (release item released)
   released_kept item released good h =
       elim (is_new item.numbers released) as (λ (b : Bool). AllByRecursion Good (if b then item ∷ released else released)) [
@@ -119,14 +132,24 @@ pub record Got (Good : Arrival → Type 0) (r : Receiving) : Type 0 where
   pub released_good : AllByRecursion Good r.released
   pub rising : Rising r.released
 
-got_taken_as : (Good : Arrival → Type 0) → Trans → (come : Arrived Arrival) (r : Receiving) → KeptArrived Good come → Got Good r → Got Good (taken come r)
-got_taken_as Good trans Old r k g = g
-got_taken_as Good trans Doubled r k g = g
-got_taken_as Good trans (Stored moved) r k g = record {
+got_passed : (Good : Arrival → Type 0) → Trans → (moved : Moved Arrival) (r : Receiving) → KeptMoved Good moved → Got Good r → Got Good (passed moved r)
+got_passed Good trans moved r k g = record {
   stored = k.stays;
   released_good = all_released_kept Good moved.up r.released k.up g.released_good;
   rising = all_rising trans moved.up r.released g.rising;
 }
+
+got_taken_as : (Good : Arrival → Type 0) → Trans → (come : Arrived Arrival) (r : Receiving) → KeptArrived Good come → Got Good r → Got Good (taken come r)
+got_taken_as Good trans Old r k g = g
+got_taken_as Good trans Doubled r k g = g
+got_taken_as Good trans (Stored moved) r k g = got_passed Good trans moved r k g
+
+got_asked_as : (Good : Arrival → Type 0) → Trans → (asked : Option (Moved Arrival)) (r : Receiving) → KeptIf Good asked → Got Good r → Got Good (passed_if asked r)
+got_asked_as Good trans None r k g = g
+got_asked_as Good trans (Some moved) r k g = got_passed Good trans moved r k g
+
+pub got_asked : (Good : Arrival → Type 0) → Trans → (r : Receiving) (start : ℕ) → Got Good r → Got Good (passed_if (requested r.window start) r)
+got_asked Good trans r start g = got_asked_as Good trans (requested r.window start) r (kept_requested Good r.window start g.stored) g
 
 pub got_taken : (Good : Arrival → Type 0) → Trans → (r : Receiving) (number size : ℕ) (item : Arrival) → Good item → Got Good r → Got Good (taken (arrived r.window number size item) r)
 got_taken Good trans r number size item good g = got_taken_as Good trans (arrived r.window number size item) r (kept_arrived Good r.window number size item good g.stored) g

@@ -35,9 +35,9 @@ use Rattle.wl_history.specs.declared.step.Step.{Step}
 use Rattle.wl_history.specs.Ends.{start_of, is_set_up, link_address}
 use Rattle.wl_history.specs.Hands.{hand_of}
 use Rattle.wl_history.specs.Words.{setup_of, queued, body_at, booked, Airing, receiving}
-use Rattle.wl_history.specs.Answers.{put_of}
+use Rattle.wl_history.specs.Answers.{put_of, again_of, booked_at}
 use Rattle.wl_history.specs.EndState.{EndState, lane_at, arrival_of, hear_arrived, hear_answer}
-use Rattle.wl_history.specs.AirState.{AirState, end_of, octets_named, state_of}
+use Rattle.wl_history.specs.AirState.{AirState, end_of, octets_heard, state_of}
 use Rattle.wl_history.specs.Hearing.{Closed, Judged, Answered, ToOpen, with_key, judged_protected, judged_kind, judged, is_of, sealed_under, opened_under, text_of, is_own_way}
 use Rattle.wl_history.specs.Plain.{IsPlain}
 use Rattle.wl_history.specs.Legal.{IsAnswer, Legal, HeardIf, judged_at, judged_answer, opened_answer, booking_found}
@@ -45,7 +45,7 @@ use Rattle.wl_history.specs.Safe.{InOrder, OrderKept, IsSame, NumbersKept, PutAl
 use Rattle.wl_history.specs.Below.{NumberLaws, WindowLaws}
 use Rattle.wl_history.proofs.Growing.{AiredWell, contains_within}
 use Rattle.wl_history.proofs.Receiving.{every, Rising, Trans}
-use Rattle.wl_history.proofs.Cases.{put_cases, plain_answer, found_is_of, found_there}
+use Rattle.wl_history.proofs.Cases.{put_cases, again_cases, plain_answer, found_is_of, found_there}
 use Rattle.wl_history.proofs.Sound.{Sound, all_sound}
 
 -- what the order of bookings says of two
@@ -133,11 +133,18 @@ put_allowed s link hand.Empty = tt
 put_allowed s link (hand.Reserve lane) = tt
 put_allowed s link (hand.Booking lane n) = put_cases (PutAllowed s.setup link) lane n _ _ _ tt tt (λ up. up)
 
+again_allowed : (s : EndState) (link : ℕ) (lane : Lane) (found : Option Numbers) → PutAllowed s.setup link (again_of link lane found s)
+again_allowed s link lane None = tt
+again_allowed s link lane (Some n) = again_cases (PutAllowed s.setup link) n _ _ _ tt tt (λ up. up)
+
 step_allowed : (text : Sealing) (start : Start) (air : AirState) (before : List Step) → ((e : EndId) → (end_of air e).setup ≡ setup_of (start_of start e) e before) → (thread : ℕ) (command : Command) (outcome : Outcome)
     → IsAnswer text thread command air outcome → StepAllowed start before command outcome
 step_allowed text start air before setups thread (commands.Put end link) outcome is =
     let held = hand_of (end_of air end).hands thread in
     subst (PutAllowed (setup_of (start_of start end) end before) link) (sym is) (subst (λ (setup : Setup). PutAllowed setup link (put_of link held (end_of air end))) (setups end) (put_allowed (end_of air end) link held))
+step_allowed text start air before setups thread (commands.Again end link lane pos) outcome is =
+    let found = booked_at (end_of air end) lane pos in
+    subst (PutAllowed (setup_of (start_of start end) end before) link) (sym is) (subst (λ (setup : Setup). PutAllowed setup link (again_of link lane found (end_of air end))) (setups end) (again_allowed (end_of air end) link lane found))
 step_allowed text start air before setups thread other outcome is = tt
 
 links_kept : NumberLaws → WindowLaws → Trans → (text : Sealing) (start : Start) (steps : List Step) → Legal text start steps → LinksKept start steps
@@ -239,7 +246,9 @@ module _ (text : Sealing) (s sender : EndState) (link : ℕ) where
   heard_opened (Some octets) outcome (reading, read, is) = subst (HeardOpened text s sender link (Some octets)) (sym is) (opened_judged octets reading read (judged_at s link reading) refl)
 
 step_opened : (text : Sealing) (air : AirState) (thread : ℕ) (command : Command) (outcome : Outcome) → IsAnswer text thread command air outcome → StepOpened text air command outcome
-step_opened text air thread (commands.Deliver end link nth) outcome is = heard_opened text (end_of air end) (end_of air (peer_of end)) link (octets_named air end link nth) outcome is
+step_opened text air thread (commands.Deliver end link nth) outcome is = heard_opened text (end_of air end) (end_of air (peer_of end)) link (octets_heard text (commands.Deliver end link nth) air) outcome is
+step_opened text air thread (commands.Alter end link nth number) outcome is = heard_opened text (end_of air end) (end_of air (peer_of end)) link (octets_heard text (commands.Alter end link nth number) air) outcome is
+step_opened text air thread (commands.Forge end link lane key pn number body) outcome is = heard_opened text (end_of air end) (end_of air (peer_of end)) link (octets_heard text (commands.Forge end link lane key pn number body) air) outcome is
 step_opened text air thread other outcome is = tt
 
 keys_kept : (text : Sealing) (start : Start) (steps : List Step) → Legal text start steps → KeysKept text start steps

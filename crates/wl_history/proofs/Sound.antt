@@ -1,5 +1,5 @@
 -- What holds of both ends and of the words after each legal history, and that each step keeps it.
-use Rattle.std.proofs.Common.{◌≡◌, ℕ, zero, suc, ◌+◌, ◌<◌, ◌≤◌, Bool, true, false, eq-eqb, List, [], ◌∷◌, ◌++◌, length, get_or, Option, Some, None, Result, refl, sym, ap, subst, ◌∙◌, arith}
+use Rattle.std.proofs.Common.{◌≡◌, ℕ, zero, suc, ◌+◌, ◌<◌, ◌≤◌, Bool, true, false, eq-eqb, List, [], ◌∷◌, ◌++◌, length, get_or, Option, Some, None, Result, Ok, Err, refl, sym, ap, subst, ◌∙◌, arith}
 use Rattle.std.specs.Prelude.{◌==◌, ◌&&◌, ◌||◌, if◌then◌else◌}
 use Rattle.std.specs.List.{Contains, AllByRecursion}
 use Rattle.std.proofs.lemmas.Bool.{both_ways, le-ltb}
@@ -17,8 +17,10 @@ use Rattle.wl_number.specs.Bookings.{no_bookings}
 use Rattle.wl_number.specs.OrderRule.{Ascending, list_at, list_of}
 use Rattle.wl_replay.specs.Replay.{is_above, last_of, no_pairs}
 use Rattle.wl_window.specs.Originating.{Sending, Acked, is_booked, booked_count}
-use Rattle.wl_window.specs.Reordering.{Arrived, Old, Doubled, Stored, arrived}
+use Rattle.wl_window.specs.declared.refusal.MoveRefusal.{MoveRefusal}
+use Rattle.wl_window.specs.Reordering.{Arrived, Moved, Old, Doubled, Stored, arrived, requested}
 use Rattle.wl_history.specs.declared.ack.Ack.{Ack}
+use Rattle.wl_history.specs.declared.ack.Bar.{Bar}
 use Rattle.wl_history.specs.declared.hand.Hand.{Hand}
 use Rattle.wl_history.specs.declared.hand.Hand.TheVariants as hand
 use Rattle.wl_history.specs.declared.arrival.Arrival.{Arrival}
@@ -32,11 +34,11 @@ use Rattle.wl_history.specs.declared.start.Start.{Start}
 use Rattle.wl_history.specs.declared.step.Step.{Step}
 use Rattle.wl_history.specs.Ends.{IsStart, start_of, receive_size, send_size}
 use Rattle.wl_history.specs.Hands.{hand_of}
-use Rattle.wl_history.specs.Words.{setup_of, queued, body_at, booked, booked_with, send_key, key_booked, Airing, airings, airings_put, Receiving, receiving, received, taken, installed, key_turned}
-use Rattle.wl_history.specs.Answers.{reserve_answer, book_answer, put_of, airing_of, aired_octets, turn_answer}
+use Rattle.wl_history.specs.Words.{setup_of, queued, body_at, booked, booked_with, send_key, key_booked, Airing, airings, airings_put, airings_again, Receiving, receiving, received, taken, passed_if, moved_to, installed, key_turned}
+use Rattle.wl_history.specs.Answers.{reserve_answer, book_answer, put_of, booked_at, again_of, octets_again, airing_of, aired_octets, moved_answer, bar_answer, turn_answer}
 use Rattle.wl_history.specs.Hearing.{octets_of, Closed, Judged, Answered, ToOpen}
-use Rattle.wl_history.specs.EndState.{EndState, LaneState, IsEnd, lane_at, no_lane, no_lanes, no_management, no_frames, started, was_aired_at, with_frame, let_up, with_moved, put_down, after_queue, after_reserve, after_book, after_put, after_arrived, after_hear, after_acked, after_taken, acked_by, arrival_of, after_heard, hear_arrived, hear_answer, after_install, after_turn}
-use Rattle.wl_history.specs.AirState.{AirState, end_of, with_end, with_acks, ack_named, octets_named, begun, after, state_of}
+use Rattle.wl_history.specs.EndState.{EndState, LaneState, IsEnd, lane_at, no_lane, no_lanes, no_management, no_frames, started, was_aired_at, with_frame, let_up, with_moved, put_down, after_queue, after_reserve, after_book, after_put, after_arrived, after_hear, after_again, after_acked, after_taken, acked_by, after_given, after_bar_out, given_by, moved_by, after_moved, after_request, arrival_of, after_heard, hear_arrived, hear_answer, after_install, after_turn}
+use Rattle.wl_history.specs.AirState.{AirState, end_of, with_end, with_acks, with_bars, ack_named, bar_named, octets_heard, begun, after, state_of}
 use Rattle.wl_history.specs.Plain.{IsPlain}
 use Rattle.wl_history.specs.Legal.{Fits, IsAnswer, Legal, HeardIf, judged_at, judged_answer, opened_answer, booking_found}
 use Rattle.wl_history.specs.Scripts.{step_of}
@@ -45,11 +47,11 @@ use Rattle.wl_history.specs.Stands.{LaneTells, Tells, EndStands}
 use Rattle.wl_history.proofs.Lanes.{same_list, no_member}
 use Rattle.wl_history.specs.Below.{NumberLaws, WindowLaws}
 use Rattle.wl_history.proofs.Sender.{lane_within}
-use Rattle.wl_history.proofs.Keeping.{queue_kept, reserve_kept, given_back, booked_so, puts_down, aired_so, hear_kept, ack_kept, install_kept, turn_kept}
-use Rattle.wl_history.proofs.Telling.{queue_tells, sending_tells, booked_tells, down_tells, framed_tells, moved_tells, install_tells, turn_tells}
+use Rattle.wl_history.proofs.Keeping.{queue_kept, reserve_kept, given_back, booked_so, puts_down, aired_so, framed_kept, hear_kept, ack_kept, given_kept, moved_kept, install_kept, turn_kept}
+use Rattle.wl_history.proofs.Telling.{queue_tells, sending_tells, booked_tells, down_tells, framed_tells, moved_tells, asked_tells, install_tells, turn_tells}
 use Rattle.wl_history.proofs.Growing.{IsBooking, contains_within, booking_queued, booking_booked, Aired, aired_still, aired_more}
-use Rattle.wl_history.proofs.Receiving.{Trans, Got, got_taken, got_still}
-use Rattle.wl_history.proofs.Cases.{reserve_cases, book_cases, put_cases, plain_answer, found_there}
+use Rattle.wl_history.proofs.Receiving.{Trans, Got, got_taken, got_asked, got_still}
+use Rattle.wl_history.proofs.Cases.{reserve_cases, book_cases, put_cases, again_cases, at_there, plain_answer, found_there}
 
 abbrev pub AiredAt : EndId → List Step → Type 0
 AiredAt e steps = Aired (λ l. queued e l steps) (booked e steps) (airings e steps)
@@ -301,6 +303,30 @@ module _ (laws : NumberLaws) (windows : WindowLaws) (trans : Trans) (text : Seal
       got = λ e l. got_still (IsItem (peer_of e) l before) (λ item. IsBooking (queues (peer_of e)) (booked (peer_of e) (book_step ∷ before)) l item.numbers item.body) (λ item b. book_still (peer_of e) l item.numbers item.body b) (gots e l) (sound.got e l);
     }
 
+  -- ---- a frame more
+
+  abbrev new_airing : EndId → ℕ → Lane → Numbers → Airing
+  new_airing x link lane n = record { link = link; lane = lane; numbers = n; retry = was_aired_at (lane_at (end_of a x) (lane_index lane)).aired n.pos; body = body_at (queued x (lane_index lane) before) n.pos }
+
+  record Framed (x : EndId) (link : ℕ) (lane : Lane) (n : Numbers) : Type 0 where
+    pub told : Told x (with_frame link (octets_of text (end_of a x).start (end_of a x).start.end (airing_of link lane n (lane_at (end_of a x) (lane_index lane)))) lane n (end_of a x)) (queues x) (booked x before) (airings x before ++ new_airing x link lane n ∷ []) (gots x) (key_of x)
+    pub aired : Aired (queues x) (booked x before) (airings x before ++ new_airing x link lane n ∷ [])
+
+  framed_so : (x : EndId) (link : ℕ) (lane : Lane) (n : Numbers) → Contains (list_of (end_of a x).booked lane) n → IsLane lane → Framed x link lane n
+  framed_so x link lane n there is_lane =
+      let s = end_of a x in
+      let k = lane_index lane in
+      let new : Airing = new_airing x link lane n in
+      let octets = octets_of text s.start s.start.end (airing_of link lane n (lane_at s k)) in
+      let octets_are : octets ≡ octets_of text (start_of start x) x new =
+      ap (λ (st : EndStart). octets_of text st st.end (airing_of link lane n (lane_at s k))) (sound.told x).start_is
+      ∙ ap (λ (e : EndId). octets_of text (start_of start x) e (airing_of link lane n (lane_at s k))) (own_end start is_start x)
+      ∙ ap (λ (q : List (List ℕ)). octets_of text (start_of start x) x (record { link = link; lane = lane; numbers = n; retry = was_aired_at (lane_at s k).aired n.pos; body = body_at q n.pos })) ((sound.told x).lanes k (lane_within lane is_lane)).queue_is in
+      record {
+        told = framed_tells text (start_of start x) x s (queues x) (booked x before) (airings x before) (gots x) (key_of x) (setup_at x) (sound.ends x) (sound.told x) new octets octets_are;
+        aired = aired_more (queues x) (booked x before) (airings x before) new (record { booking = booking_is x k n there; of_lane = is_lane }) (sound.aired x);
+      }
+
   -- ---- put
 
   module _ (thread : ℕ) (end : EndId) (link : ℕ) (outcome : Outcome) where
@@ -327,20 +353,13 @@ module _ (laws : NumberLaws) (windows : WindowLaws) (trans : Trans) (text : Seal
     sent : (x : EndId) (lane : Lane) (n : Numbers) → hand_of (end_of a x).hands thread ≡ hand.Booking lane n → Put x (hand.Booking lane n) (outcomes.Put lane n (was_aired_at (lane_at (end_of a x) (lane_index lane)).aired n.pos))
     sent x lane n held =
         let s = end_of a x in
-        let k = lane_index lane in
         let there = (sound.ends x).sender.held thread lane n held in
-        let lt : k < lane_count = lane_within lane there.1 in
-        let new : Airing = record { link = link; lane = lane; numbers = n; retry = was_aired_at (lane_at s k).aired n.pos; body = body_at (queued x k before) n.pos } in
-        let octets = octets_of text s.start s.start.end (airing_of link lane n (lane_at s k)) in
-        let octets_are : octets ≡ octets_of text (start_of start x) x new =
-        ap (λ (st : EndStart). octets_of text st st.end (airing_of link lane n (lane_at s k))) (sound.told x).start_is
-        ∙ ap (λ (e : EndId). octets_of text (start_of start x) e (airing_of link lane n (lane_at s k))) (own_end start is_start x)
-        ∙ ap (λ (q : List (List ℕ)). octets_of text (start_of start x) x (record { link = link; lane = lane; numbers = n; retry = was_aired_at (lane_at s k).aired n.pos; body = body_at q n.pos })) ((sound.told x).lanes k lt).queue_is in
+        let framed = framed_so x link lane n there.0 there.1 in
+        let octets = octets_of text s.start s.start.end (airing_of link lane n (lane_at s (lane_index lane))) in
         record {
           stays = subst (λ (h : Hand). IsEnd (put_down thread h (with_frame link octets lane n s))) (sym held) (aired_so s thread lane n link octets (sound.ends x) held);
-          told = down_tells text (start_of start x) x (with_frame link octets lane n s) (queues x) (booked x before) (airings x before ++ new ∷ []) (gots x) (key_of x) (setup_at x)
-              (framed_tells text (start_of start x) x s (queues x) (booked x before) (airings x before) (gots x) (key_of x) (setup_at x) (sound.ends x) (sound.told x) new octets octets_are) thread (hand_of s.hands thread);
-          aired = aired_more (queues x) (booked x before) (airings x before) new (record { booking = booking_is x k n there.0; of_lane = there.1 }) (sound.aired x);
+          told = down_tells text (start_of start x) x (with_frame link octets lane n s) (queues x) (booked x before) (airings x before ++ new_airing x link lane n ∷ []) (gots x) (key_of x) (setup_at x) framed.told thread (hand_of s.hands thread);
+          aired = framed.aired;
         }
 
     put : (x : EndId) (held : Hand) → hand_of (end_of a x).hands thread ≡ held → Put x held (put_of link held (end_of a x))
@@ -363,7 +382,49 @@ module _ (laws : NumberLaws) (windows : WindowLaws) (trans : Trans) (text : Seal
       got = sound.got;
     }
 
-  -- ---- deliver
+  -- ---- again
+
+  module _ (thread : ℕ) (end : EndId) (link : ℕ) (lane : Lane) (pos : ℕ) (outcome : Outcome) (is_lane : IsLane lane) where
+    abbrev found_at : EndId → Option Numbers
+    found_at x = booked_at (end_of a x) lane pos
+
+    abbrev Agains : EndId → Type 0
+    Agains x = outcome ≡ again_of link lane (found_at x) (end_of a x)
+
+    abbrev again_end : EndId → EndState
+    again_end x = after_again link lane (octets_again text link lane (found_at x) (end_of a x)) outcome (end_of a x)
+
+    -- what an airing of a booking that was named leaves, with this answer
+    record Again (x : EndId) (found : Option Numbers) (o : Outcome) : Type 0 where
+      pub stays : IsEnd (after_again link lane (octets_again text link lane found (end_of a x)) o (end_of a x))
+      pub told : Told x (after_again link lane (octets_again text link lane found (end_of a x)) o (end_of a x)) (queues x) (booked x before) (airings_again x before link lane o (airings x before)) (gots x) (key_of x)
+      pub aired : Aired (queues x) (booked x before) (airings_again x before link lane o (airings x before))
+
+    sent_again : (x : EndId) (n : Numbers) → found_at x ≡ Some n → Again x (Some n) (outcomes.PutAgain n (was_aired_at (lane_at (end_of a x) (lane_index lane)).aired n.pos))
+    sent_again x n found =
+        let framed = framed_so x link lane n (at_there pos (list_of (end_of a x).booked lane) n found) is_lane in
+        record { stays = framed_kept (end_of a x) lane n link _ (sound.ends x); told = framed.told; aired = framed.aired }
+
+    again : (x : EndId) (found : Option Numbers) → found_at x ≡ found → Again x found (again_of link lane found (end_of a x))
+    again x None is = record { stays = sound.ends x; told = sound.told x; aired = sound.aired x }
+    again x (Some n) is =
+        again_cases (Again x (Some n)) n _ _ _
+        (record { stays = sound.ends x; told = sound.told x; aired = sound.aired x })
+        (record { stays = sound.ends x; told = sound.told x; aired = sound.aired x })
+        (λ up. sent_again x n is)
+
+    again_all : (x : EndId) → Agains x → Again x (found_at x) outcome
+    again_all x own = subst (Again x (found_at x)) (sym own) (again x (found_at x) refl)
+
+    sound_again : IsAnswer text thread (commands.Again end link lane pos) a outcome → Sound text start (after text thread (commands.Again end link lane pos) outcome a) (step_of thread (commands.Again end link lane pos) outcome ∷ before)
+    sound_again is = record {
+      ends = λ e. by_end (λ end e b s. Agains end → IsEnd s) again_end (λ x own. (again_all x own).stays) (λ x y own. sound.ends y) end e is;
+      told = λ e. by_end (λ end e b s. Agains end → Told e s (queues e) (booked e before) (if b then airings_again e before link lane outcome (airings e before) else airings e before) (gots e) (key_of e)) again_end (λ x own. (again_all x own).told) (λ x y own. sound.told y) end e is;
+      aired = λ e. by_end (λ end e b s. Agains end → Aired (queues e) (booked e before) (if b then airings_again e before link lane outcome (airings e before) else airings e before)) again_end (λ x own. (again_all x own).aired) (λ x y own. sound.aired y) end e is;
+      got = sound.got;
+    }
+
+  -- ---- frames that are heard
 
   -- what a frame that was heard with this answer leaves
   record Heard (x : EndId) (o : Outcome) : Type 0 where
@@ -426,24 +487,42 @@ module _ (laws : NumberLaws) (windows : WindowLaws) (trans : Trans) (text : Seal
   heard_if x link None o is = subst (Heard x) (sym is) (quiet x outcomes.NotThere tt)
   heard_if x link (Some octets) o (reading, read, is) = subst (Heard x) (sym is) (judged_heard x link reading (judged_at (end_of a x) link reading) refl)
 
-  module _ (thread : ℕ) (end : EndId) (link : ℕ) (nth : Option ℕ) (outcome : Outcome) where
+  module _ (end : EndId) (link : ℕ) (octets : EndId → Option (List ℕ)) (outcome : Outcome) where
     abbrev Hears : EndId → Type 0
-    Hears x = HeardIf text (end_of a x) (end_of a (peer_of x)) link (octets_named a x link nth) outcome
+    Hears x = HeardIf text (end_of a x) (end_of a (peer_of x)) link (octets x) outcome
 
     abbrev heard_end : EndId → EndState
     heard_end x = after_heard (end_of a (peer_of x)) outcome (end_of a x)
 
     heard_all : (x : EndId) → Hears x → Heard x outcome
-    heard_all x own = heard_if x link (octets_named a x link nth) outcome own
+    heard_all x own = heard_if x link (octets x) outcome own
 
-    sound_deliver : IsAnswer text thread (commands.Deliver end link nth) a outcome
-        → Sound text start (after text thread (commands.Deliver end link nth) outcome a) (step_of thread (commands.Deliver end link nth) outcome ∷ before)
-    sound_deliver is = record {
-      ends = λ e. by_end (λ end e b s. Hears end → IsEnd s) heard_end (λ x own. (heard_all x own).stays) (λ x y own. sound.ends y) end e is;
-      told = λ e. by_end (λ end e b s. Hears end → Told e s (queues e) (booked e before) (airings e before) (λ l. if b then received (start_of start e) e l before outcome (gots e l) else gots e l) (key_of e)) heard_end (λ x own. (heard_all x own).told) (λ x y own. sound.told y) end e is;
-      aired = sound.aired;
-      got = λ e. by_end (λ end e b s. Hears end → (l : ℕ) → Got (IsItem (peer_of e) l before) (if b then received (start_of start e) e l before outcome (gots e l) else gots e l)) heard_end (λ x own. (heard_all x own).got) (λ x y own. sound.got y) end e is;
-    }
+    heard_ends : Hears end → (e : EndId) → IsEnd (end_of (with_end end (heard_end end) a) e)
+    heard_ends is e = by_end (λ end e b s. Hears end → IsEnd s) heard_end (λ x own. (heard_all x own).stays) (λ x y own. sound.ends y) end e is
+
+    heard_told : Hears end → (e : EndId) → Told e (end_of (with_end end (heard_end end) a) e) (queues e) (booked e before) (airings e before) (λ l. if same_end end e then received (start_of start e) e l before outcome (gots e l) else gots e l) (key_of e)
+    heard_told is e = by_end (λ end e b s. Hears end → Told e s (queues e) (booked e before) (airings e before) (λ l. if b then received (start_of start e) e l before outcome (gots e l) else gots e l) (key_of e)) heard_end (λ x own. (heard_all x own).told) (λ x y own. sound.told y) end e is
+
+    heard_got : Hears end → (e : EndId) (l : ℕ) → Got (IsItem (peer_of e) l before) (if same_end end e then received (start_of start e) e l before outcome (gots e l) else gots e l)
+    heard_got is e = by_end (λ end e b s. Hears end → (l : ℕ) → Got (IsItem (peer_of e) l before) (if b then received (start_of start e) e l before outcome (gots e l) else gots e l)) heard_end (λ x own. (heard_all x own).got) (λ x y own. sound.got y) end e is
+
+  abbrev SoundThen : ℕ → Command → Outcome → Type 0
+  SoundThen thread command outcome = IsAnswer text thread command a outcome → Sound text start (after text thread command outcome a) (step_of thread command outcome ∷ before)
+
+  sound_deliver : (thread : ℕ) (end : EndId) (link : ℕ) (nth : Option ℕ) (outcome : Outcome) → SoundThen thread (commands.Deliver end link nth) outcome
+  sound_deliver thread end link nth outcome is =
+      let octets = λ (x : EndId). octets_heard text (commands.Deliver x link nth) a in
+      record { ends = heard_ends end link octets outcome is; told = heard_told end link octets outcome is; aired = sound.aired; got = heard_got end link octets outcome is }
+
+  sound_alter : (thread : ℕ) (end : EndId) (link : ℕ) (nth : Option ℕ) (number : ℕ) (outcome : Outcome) → SoundThen thread (commands.Alter end link nth number) outcome
+  sound_alter thread end link nth number outcome is =
+      let octets = λ (x : EndId). octets_heard text (commands.Alter x link nth number) a in
+      record { ends = heard_ends end link octets outcome is; told = heard_told end link octets outcome is; aired = sound.aired; got = heard_got end link octets outcome is }
+
+  sound_forge : (thread : ℕ) (end : EndId) (link : ℕ) (lane : Lane) (key pn number : ℕ) (body : List ℕ) (outcome : Outcome) → SoundThen thread (commands.Forge end link lane key pn number body) outcome
+  sound_forge thread end link lane key pn number body outcome is =
+      let octets = λ (x : EndId). octets_heard text (commands.Forge x link lane key pn number body) a in
+      record { ends = heard_ends end link octets outcome is; told = heard_told end link octets outcome is; aired = sound.aired; got = heard_got end link octets outcome is }
 
   -- ---- acknowledgements
 
@@ -483,6 +562,71 @@ module _ (laws : NumberLaws) (windows : WindowLaws) (trans : Trans) (text : Seal
       got = sound.got;
     }
 
+  -- ---- requests to move a window
+
+  module _ (thread : ℕ) (end : EndId) (lane : Lane) (to : ℕ) (outcome : Outcome) where
+    -- its requests say nothing of an end
+    bars_same : (air : AirState) (P : EndId → EndState → Type 0) (bars : List Bar) (end e : EndId) → P e (end_of air e) → P e (end_of (with_bars end bars air) e)
+    bars_same air P bars Ap Ap h = h
+    bars_same air P bars Ap Sta h = h
+    bars_same air P bars Sta Ap h = h
+    bars_same air P bars Sta Sta h = h
+
+    abbrev barred : EndId → EndState
+    barred x = after_bar_out lane to (end_of a x)
+
+    given_told : (x : EndId) (given : Result Sending MoveRefusal) → Still x (after_given lane given (end_of a x))
+    given_told x (Err why) = sound.told x
+    given_told x (Ok sending) = sending_tells text (start_of start x) x (end_of a x) (queues x) (booked x before) (airings x before) (gots x) (key_of x) (setup_at x) (sound.ends x) (sound.told x) (lane_index lane) sending (end_of a x).hands
+
+    sound_bar_out : Sound text start (after text thread (commands.BarOut end lane to) outcome a) (step_of thread (commands.BarOut end lane to) outcome ∷ before)
+    sound_bar_out = record {
+      ends = λ e. bars_same (with_end end (barred end) a) (λ x s. IsEnd s) _ end e (by_end (λ end e b s. IsEnd s) barred (λ x. given_kept windows lane to (end_of a x) (sound.ends x)) (λ x y. sound.ends y) end e);
+      told = λ e. bars_same (with_end end (barred end) a) (λ x s. Still x s) _ end e (by_end (λ end e b s. Still e s) barred (λ x. given_told x (given_by lane to (end_of a x))) (λ x y. sound.told y) end e);
+      aired = sound.aired;
+      got = sound.got;
+    }
+
+  module _ (thread : ℕ) (end : EndId) (nth : Option ℕ) (outcome : Outcome) where
+    abbrev Asks : EndId → Type 0
+    Asks x = outcome ≡ bar_answer (bar_named a x nth) (end_of a x)
+
+    abbrev asked_end : EndId → EndState
+    asked_end x = after_request (bar_named a x nth) (end_of a x)
+
+    -- what a request leaves, with this answer
+    record Moves (x : EndId) (s : EndState) (o : Outcome) : Type 0 where
+      pub stays : IsEnd s
+      pub told : Told x s (queues x) (booked x before) (airings x before) (λ l. moved_to l o (gots x l)) (key_of x)
+      pub got : (l : ℕ) → Got (IsItem (peer_of x) l before) (moved_to l o (gots x l))
+
+    got_asked_at : (x : EndId) (bar : Bar) (l : ℕ) (b : Bool) → Got (IsItem (peer_of x) l before) (if b then passed_if (requested (gots x l).window bar.start) (gots x l) else gots x l)
+    got_asked_at x bar l true = got_asked (IsItem (peer_of x) l before) trans (gots x l) bar.start (sound.got x l)
+    got_asked_at x bar l false = sound.got x l
+
+    moved_so : (x : EndId) (bar : Bar) (moved : Option (Moved Arrival)) → moved_by bar (end_of a x) ≡ moved → Moves x (after_moved bar.lane moved (end_of a x)) (moved_answer bar moved (end_of a x))
+    moved_so x bar None is = record { stays = sound.ends x; told = sound.told x; got = sound.got x }
+    moved_so x bar (Some moved) is = record {
+      stays = moved_kept bar.lane (Some moved) (end_of a x) (sound.ends x);
+      told = asked_tells text (start_of start x) x (end_of a x) (queues x) (booked x before) (airings x before) (gots x) (key_of x) (setup_at x) (sound.ends x) (sound.told x) bar moved is;
+      got = λ l. got_asked_at x bar l (at_place bar.lane l);
+    }
+
+    asked_so : (x : EndId) (named : Option Bar) → Moves x (after_request named (end_of a x)) (bar_answer named (end_of a x))
+    asked_so x None = record { stays = sound.ends x; told = sound.told x; got = sound.got x }
+    asked_so x (Some bar) = moved_so x bar (moved_by bar (end_of a x)) refl
+
+    asked_all : (x : EndId) → Asks x → Moves x (asked_end x) outcome
+    asked_all x own = subst (Moves x (asked_end x)) (sym own) (asked_so x (bar_named a x nth))
+
+    sound_bar_in : SoundThen thread (commands.BarIn end nth) outcome
+    sound_bar_in is = record {
+      ends = λ e. by_end (λ end e b s. Asks end → IsEnd s) asked_end (λ x own. (asked_all x own).stays) (λ x y own. sound.ends y) end e is;
+      told = λ e. by_end (λ end e b s. Asks end → Told e s (queues e) (booked e before) (airings e before) (λ l. if b then moved_to l outcome (gots e l) else gots e l) (key_of e)) asked_end (λ x own. (asked_all x own).told) (λ x y own. sound.told y) end e is;
+      aired = sound.aired;
+      got = λ e. by_end (λ end e b s. Asks end → (l : ℕ) → Got (IsItem (peer_of e) l before) (if b then moved_to l outcome (gots e l) else gots e l)) asked_end (λ x own. (asked_all x own).got) (λ x y own. sound.got y) end e is;
+    }
+
   -- ---- keys
 
   module _ (thread : ℕ) (end : EndId) (outcome : Outcome) where
@@ -513,6 +657,11 @@ module _ (laws : NumberLaws) (windows : WindowLaws) (trans : Trans) (text : Seal
   sound_then thread (commands.Book end) outcome fits is = sound_book thread end outcome is
   sound_then thread (commands.Put end link) outcome fits is = sound_put thread end link outcome is
   sound_then thread (commands.Deliver end link nth) outcome fits is = sound_deliver thread end link nth outcome is
+  sound_then thread (commands.Again end link lane pos) outcome fits is = sound_again thread end link lane pos outcome fits.1 is
+  sound_then thread (commands.Alter end link nth number) outcome fits is = sound_alter thread end link nth number outcome is
+  sound_then thread (commands.Forge end link lane key pn number body) outcome fits is = sound_forge thread end link lane key pn number body outcome is
+  sound_then thread (commands.BarOut end lane to) outcome fits is = sound_bar_out thread end lane to outcome
+  sound_then thread (commands.BarIn end nth) outcome fits is = sound_bar_in thread end nth outcome is
   sound_then thread (commands.AckOut end lane) outcome fits is = sound_ack_out thread end lane outcome
   sound_then thread (commands.AckIn end nth) outcome fits is = sound_ack_in thread end nth outcome
   sound_then thread (commands.Install end) outcome fits is = sound_install thread end outcome

@@ -13,8 +13,9 @@ use Rattle.wl_number.specs.NumberObject.{drawn}
 use Rattle.wl_number.specs.OrderRule.{with_booking}
 use Rattle.wl_replay.specs.declared.replay.Pair.{Pair}
 use Rattle.wl_replay.specs.Replay.{last_of}
-use Rattle.wl_window.specs.Reordering.{Window, Moved, Arrived, Stored, arrived}
+use Rattle.wl_window.specs.Reordering.{Window, Moved, Arrived, Stored, arrived, requested}
 use Rattle.wl_window.specs.Originating.{Sending, with_booked}
+use Rattle.wl_history.specs.declared.ack.Bar.{Bar}
 use Rattle.wl_history.specs.declared.arrival.Arrival.{Arrival}
 use Rattle.wl_history.specs.declared.hand.Hand.{Hand}
 use Rattle.wl_history.specs.declared.hand.Hand.TheVariants as hand
@@ -24,9 +25,9 @@ use Rattle.wl_history.specs.Answers.{last_key, turn_answer}
 use Rattle.wl_history.specs.declared.setup.Setup.{Setup}
 use Rattle.wl_history.specs.declared.start.EndStart.{EndStart}
 use Rattle.wl_history.specs.Ends.{receive_size}
-use Rattle.wl_history.specs.Words.{body_at, installed, key_turned, Airing, airings_on, was_aired, Receiving, last_pair, is_new, release, release_all, taken}
+use Rattle.wl_history.specs.Words.{body_at, installed, key_turned, Airing, airings_on, was_aired, Receiving, last_pair, is_new, release, release_all, passed, taken, passed_if}
 use Rattle.wl_history.specs.Hearing.{octets_of}
-use Rattle.wl_history.specs.EndState.{EndState, IsEnd, lane_at, no_lane, frames_on, with_lane, with_frame, put_down, was_aired_at, aired_at, LetUp, pair_of, before_it, let_up, with_moved, after_queue, after_book, after_install, after_turn}
+use Rattle.wl_history.specs.EndState.{EndState, IsEnd, lane_at, no_lane, frames_on, with_lane, with_frame, put_down, was_aired_at, aired_at, LetUp, pair_of, before_it, let_up, with_moved, moved_by, after_queue, after_book, after_install, after_turn}
 use Rattle.wl_history.specs.Stands.{positions_of, octets_all, LaneTells, Tells}
 use Rattle.wl_history.proofs.Keeping.{any_place, set_place, at_own_place}
 
@@ -116,7 +117,7 @@ up_alike (a ∷ up) released = up_by (is_new a.numbers released) a up released r
 -- ---- each call
 
 -- the key that is turned to
-turned_key : (b : Bool) (key new : ℕ) → outcomes.Turned new ≡ (if b then outcomes.KeysSpent else outcomes.Turned (key + 1)) → new ≡ key + 1
+pub turned_key : (b : Bool) (key new : ℕ) → outcomes.Turned new ≡ (if b then outcomes.KeysSpent else outcomes.Turned (key + 1)) → new ≡ key + 1
 turned_key true key new is = absurd (cc is)
 turned_key false key new is = cc is
 
@@ -229,33 +230,12 @@ module _ (text : Sealing) (start : EndStart) (e : EndId) (s : EndState) (queue :
       frames = frames_then;
     }
 
-  -- ---- a body that is stored
+  -- ---- a window that moves
 
-  module _ (lane : Lane) (number : ℕ) (a : Arrival) (moved : Moved Arrival) (come : arrived (lane_at s (lane_index lane)).window number (receive_size s.setup (lane_index lane)) a ≡ Stored moved)
-      (peers : ℕ → List (List ℕ)) (body : a.body ≡ body_at (peers (lane_index lane)) a.numbers.pos) where
-    abbrev item : ℕ → Arrival
-    item l = record { numbers = a.numbers; body = body_at (peers l) a.numbers.pos }
-
-    abbrev pub got_then : ℕ → Receiving
-    got_then l = if at_place lane l then taken (arrived (got l).window number (receive_size setup l) (item l)) (got l) else got l
-
-    abbrev then_at : ℕ → Receiving
-    then_at l = record { window = moved.window; released = release_all moved.up (got l).released }
-
-    own : LaneTells (lane_index lane) (lane_at s (lane_index lane)) (queue (lane_index lane)) (got (lane_index lane)) aired → got_then (lane_index lane) ≡ then_at (lane_index lane)
-    own was =
-        let k = lane_index lane in
-        let same_item : item k ≡ a = ap (λ (b : List ℕ). let x : Arrival = record { numbers = a.numbers; body = b } in x) (sym body) in
-        let word_come : arrived (got k).window number (receive_size setup k) (item k) ≡ Stored moved =
-        ap (λ (w : Window Arrival). arrived w number (receive_size setup k) (item k)) (sym was.window)
-        ∙ ap (λ (x : Setup). arrived (lane_at s k).window number (receive_size x k) (item k)) (sym h.setup_is)
-        ∙ ap (λ (x : Arrival). arrived (lane_at s k).window number (receive_size s.setup k) x) same_item ∙ come in
-        ap (λ (b : Bool). if b then taken (arrived (got k).window number (receive_size setup k) (item k)) (got k) else got k) (at_own_place lane)
-        ∙ ap (λ (c : Arrived Arrival). taken c (got k)) word_come
-
-    other : (l : ℕ) → lane_index lane ≢ l → got l ≡ got_then l
-    other l ne = sym (ap (λ (b : Bool). if b then taken (arrived (got l).window number (receive_size setup l) (item l)) (got l) else got l) (ne_eqb (lane_index lane) l ne))
-
+  -- the words of what is received then, which are these
+  module _ (lane : Lane) (moved : Moved Arrival) (got_then : ℕ → Receiving)
+      (own : LaneTells (lane_index lane) (lane_at s (lane_index lane)) (queue (lane_index lane)) (got (lane_index lane)) aired → got_then (lane_index lane) ≡ passed moved (got (lane_index lane)))
+      (other : (l : ℕ) → lane_index lane ≢ l → got l ≡ got_then l) where
     own_lane : lane_index lane < lane_count → LaneTells (lane_index lane) (record (lane_at s (lane_index lane)) { window = moved.window; released = (lane_at s (lane_index lane)).released ++ (let_up (last_of s.last lane) moved.up).positions }) (queue (lane_index lane)) (got_then (lane_index lane)) aired
     own_lane lt =
         let k = lane_index lane in
@@ -274,8 +254,8 @@ module _ (text : Sealing) (start : EndStart) (e : EndId) (s : EndState) (queue :
         let k = lane_index lane in
         ap (λ (last : Option Pair). (let_up last moved.up).last) (h.last k lt) ∙ (up_alike moved.up (got k).released).last ∙ sym (ap (λ (r : Receiving). last_pair r.released) (own (h.lanes k lt)))
 
-    pub moved_tells : Tells text start e (with_moved lane moved s) queue bookings aired got_then key setup
-    moved_tells = record {
+    passed_tells : Tells text start e (with_moved lane moved s) queue bookings aired got_then key setup
+    passed_tells = record {
       start_is = h.start_is;
       setup_is = h.setup_is;
       key_is = h.key_is;
@@ -288,3 +268,43 @@ module _ (text : Sealing) (start : EndStart) (e : EndId) (s : EndState) (queue :
           (λ same. subst (λ (j : ℕ). (let_up (last_of s.last lane) moved.up).last ≡ last_pair (got_then j).released) same (own_last (omega (arith, lt, same))));
       frames = h.frames;
     }
+
+  -- by a body that is stored
+  module _ (lane : Lane) (number : ℕ) (a : Arrival) (moved : Moved Arrival) (come : arrived (lane_at s (lane_index lane)).window number (receive_size s.setup (lane_index lane)) a ≡ Stored moved)
+      (peers : ℕ → List (List ℕ)) (body : a.body ≡ body_at (peers (lane_index lane)) a.numbers.pos) where
+    abbrev item : ℕ → Arrival
+    item l = record { numbers = a.numbers; body = body_at (peers l) a.numbers.pos }
+
+    abbrev pub got_stored : ℕ → Receiving
+    got_stored l = if at_place lane l then taken (arrived (got l).window number (receive_size setup l) (item l)) (got l) else got l
+
+    own_stored : LaneTells (lane_index lane) (lane_at s (lane_index lane)) (queue (lane_index lane)) (got (lane_index lane)) aired → got_stored (lane_index lane) ≡ passed moved (got (lane_index lane))
+    own_stored was =
+        let k = lane_index lane in
+        let same_item : item k ≡ a = ap (λ (b : List ℕ). let x : Arrival = record { numbers = a.numbers; body = b } in x) (sym body) in
+        let word_come : arrived (got k).window number (receive_size setup k) (item k) ≡ Stored moved =
+        ap (λ (w : Window Arrival). arrived w number (receive_size setup k) (item k)) (sym was.window)
+        ∙ ap (λ (x : Setup). arrived (lane_at s k).window number (receive_size x k) (item k)) (sym h.setup_is)
+        ∙ ap (λ (x : Arrival). arrived (lane_at s k).window number (receive_size s.setup k) x) same_item ∙ come in
+        ap (λ (b : Bool). if b then taken (arrived (got k).window number (receive_size setup k) (item k)) (got k) else got k) (at_own_place lane)
+        ∙ ap (λ (c : Arrived Arrival). taken c (got k)) word_come
+
+    pub moved_tells : Tells text start e (with_moved lane moved s) queue bookings aired got_stored key setup
+    moved_tells = passed_tells lane moved got_stored own_stored
+        (λ l ne. sym (ap (λ (b : Bool). if b then taken (arrived (got l).window number (receive_size setup l) (item l)) (got l) else got l) (ne_eqb (lane_index lane) l ne)))
+
+  -- by a request
+  module _ (bar : Bar) (moved : Moved Arrival) (asked : moved_by bar s ≡ Some moved) where
+    abbrev pub got_asked : ℕ → Receiving
+    got_asked l = if at_place bar.lane l then passed_if (requested (got l).window bar.start) (got l) else got l
+
+    own_asked : LaneTells (lane_index bar.lane) (lane_at s (lane_index bar.lane)) (queue (lane_index bar.lane)) (got (lane_index bar.lane)) aired → got_asked (lane_index bar.lane) ≡ passed moved (got (lane_index bar.lane))
+    own_asked was =
+        let k = lane_index bar.lane in
+        ap (λ (b : Bool). if b then passed_if (requested (got k).window bar.start) (got k) else got k) (at_own_place bar.lane)
+        ∙ ap (λ (w : Window Arrival). passed_if (requested w bar.start) (got k)) (sym was.window)
+        ∙ ap (λ (m : Option (Moved Arrival)). passed_if m (got k)) asked
+
+    pub asked_tells : Tells text start e (with_moved bar.lane moved s) queue bookings aired got_asked key setup
+    asked_tells = passed_tells bar.lane moved got_asked own_asked
+        (λ l ne. sym (ap (λ (b : Bool). if b then passed_if (requested (got l).window bar.start) (got l) else got l) (ne_eqb (lane_index bar.lane) l ne)))

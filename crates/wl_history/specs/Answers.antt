@@ -5,8 +5,12 @@ use Rattle.wl_elem.specs.Lanes.{lane_index}
 use Rattle.wl_frame.specs.Sealing.{Sealing}
 use Rattle.wl_number.specs.declared.numbers.Numbers.{Numbers}
 use Rattle.wl_number.specs.NumberObject.{NumberObject, is_spent, drawn}
-use Rattle.wl_window.specs.Reordering.{Window, stored_numbers}
+use Rattle.wl_number.specs.OrderRule.{list_of}
+use Rattle.wl_replay.specs.Replay.{last_of}
+use Rattle.wl_window.specs.Reordering.{Window, Moved, stored_numbers}
 use Rattle.wl_window.specs.Originating.{Sending, Acked, is_done, reserved}
+use Rattle.wl_window.specs.declared.refusal.MoveRefusal.{MoveRefusal}
+use Rattle.wl_window.specs.declared.refusal.MoveRefusal.TheVariants as moves
 use Rattle.wl_window.specs.declared.refusal.OriginRefusal.{OriginRefusal}
 use Rattle.wl_window.specs.declared.refusal.OriginRefusal.TheVariants.{NothingQueued, WindowFull}
 use Rattle.wl_history.specs.declared.outcome.Outcome.{Outcome}
@@ -16,10 +20,11 @@ use Rattle.wl_history.specs.declared.hand.Hand.{Hand}
 use Rattle.wl_history.specs.declared.hand.Hand.TheVariants as hand
 use Rattle.wl_history.specs.declared.arrival.Arrival.{Arrival}
 use Rattle.wl_history.specs.declared.ack.Ack.{Ack}
+use Rattle.wl_history.specs.declared.ack.Bar.{Bar}
 use Rattle.wl_history.specs.Ends.{is_set_up}
 use Rattle.wl_history.specs.Words.{Airing, body_at}
 use Rattle.wl_history.specs.Hearing.{octets_of}
-use Rattle.wl_history.specs.EndState.{LaneState, EndState, lane_at, was_aired_at, acked_by}
+use Rattle.wl_history.specs.EndState.{LaneState, EndState, lane_at, was_aired_at, acked_by, let_up, given_by, moved_by}
 
 -- key numbers have 16 bits
 abbrev pub last_key : ℕ
@@ -69,6 +74,31 @@ abbrev pub aired_octets : Sealing → ℕ → Hand → EndState → List ℕ
 aired_octets text link (hand.Booking lane n) s = octets_of text s.start s.start.end (airing_of link lane n (lane_at s (lane_index lane)))
 aired_octets text link other s = []
 
+-- the numbers booked at a position of a lane
+abbrev pub at_position : ℕ → List Numbers → Option Numbers
+at_position pos [] = None
+at_position pos (n ∷ ns) = if n.pos == pos then Some n else at_position pos ns
+
+abbrev pub booked_at : EndState → Lane → ℕ → Option Numbers
+booked_at s lane pos = at_position pos (list_of s.booked lane)
+
+-- an airing of this booking, done or not, aired before or not, over a link that is set up or not
+abbrev pub again_answer : Numbers → Bool → Bool → Bool → Outcome
+again_answer numbers is_done was_aired is_set_up =
+    if is_done then outcomes.Nothing
+    else if is_set_up then outcomes.PutAgain numbers was_aired
+    else outcomes.KeptAgain NotSetUp
+
+-- an airing of a booking that was named
+abbrev pub again_of : ℕ → Lane → Option Numbers → EndState → Outcome
+again_of link lane None s = outcomes.Nothing
+again_of link lane (Some n) s = again_answer n (is_done (lane_at s (lane_index lane)).sending n.pos) (was_aired_at (lane_at s (lane_index lane)).aired n.pos) (is_set_up s.setup link)
+
+-- the octets that it airs, where it airs any
+abbrev pub octets_again : Sealing → ℕ → Lane → Option Numbers → EndState → List ℕ
+octets_again text link lane None s = []
+octets_again text link lane (Some n) s = octets_of text s.start s.start.end (airing_of link lane n (lane_at s (lane_index lane)))
+
 -- an acknowledgement of a lane with this window
 abbrev pub ack_out_answer : Window Arrival → Outcome
 ack_out_answer w = outcomes.Acked (w.start % 4096) (stored_numbers w.slots)
@@ -77,6 +107,30 @@ ack_out_answer w = outcomes.Acked (w.start % 4096) (stored_numbers w.slots)
 abbrev pub acks_made : Lane → Outcome → List Ack → List Ack
 acks_made lane (outcomes.Acked start stored) old = old ++ record { lane = lane; start = start; stored = stored } ∷ []
 acks_made lane other old = old
+
+-- positions that are given up, or why they can't be
+abbrev pub given_answer : Result Sending MoveRefusal → Outcome
+given_answer (Ok sending) = outcomes.Barred (sending.base % 4096)
+given_answer (Err moves.NotBooked) = outcomes.NotBooked
+given_answer (Err moves.Behind) = outcomes.Behind
+
+abbrev pub bar_out_answer : Lane → ℕ → EndState → Outcome
+bar_out_answer lane to s = given_answer (given_by lane to s)
+
+-- the requests that an end made, with one more of this lane
+abbrev pub bars_made : Lane → Outcome → List Bar → List Bar
+bars_made lane (outcomes.Barred start) old = old ++ record { lane = lane; start = start } ∷ []
+bars_made lane other old = old
+
+-- a window that moves as it was asked, or is past that
+abbrev pub moved_answer : Bar → Option (Moved Arrival) → EndState → Outcome
+moved_answer bar None s = outcomes.OldBar
+moved_answer bar (Some moved) s = outcomes.Moved bar.lane bar.start (let_up (last_of s.last bar.lane) moved.up).positions
+
+-- a request that is taken, where it is there, at the lane that it names
+abbrev pub bar_answer : Option Bar → EndState → Outcome
+bar_answer None s = outcomes.NotThere
+bar_answer (Some bar) s = moved_answer bar (moved_by bar s) s
 
 -- the next key is installed where this is the newest
 abbrev pub install_answer : ℕ → Outcome

@@ -1,5 +1,5 @@
 -- For private contracts alone: what the crates below say of bookings, and of windows that send.
-use Rattle.std.specs.Prelude.{◌≡◌, ℕ, suc, ◌<◌, ◌==◌, ◌||◌, true, false, List, length, Some}
+use Rattle.std.specs.Prelude.{◌≡◌, ℕ, suc, ◌<◌, ◌==◌, ◌||◌, true, false, List, length, Some, Ok}
 use Rattle.std.specs.List.{Contains}
 use Rattle.wl_elem.specs.declared.lane.Lane.{Lane}
 use Rattle.wl_elem.specs.Lanes.{lane_index}
@@ -7,7 +7,7 @@ use Rattle.wl_number.specs.declared.numbers.Numbers.{Numbers}
 use Rattle.wl_number.specs.NumberObject.{NumberObject, drawn}
 use Rattle.wl_elem.specs.Pairs.{pair_below}
 use Rattle.wl_number.specs.OrderRule.{OrderRule, NoneBreaks, is_below, list_at, list_of, with_booking}
-use Rattle.wl_window.specs.Originating.{Sending, Acked, Keeps, with_booked, acked, is_booked, booked_count}
+use Rattle.wl_window.specs.Originating.{Sending, Acked, Keeps, with_booked, acked, given_up, is_booked, booked_count}
 
 -- what the crate of numbers says of them
 pub record NumberLaws : Type 0 where
@@ -23,3 +23,4 @@ pub record WindowLaws : Type 0 where
   pub booking : (s : Sending) (pos q : ℕ) → is_booked s pos ≡ false → is_booked (with_booked s pos) q ≡ (pos == q || is_booked s q)
   pub booking_counts : (s : Sending) (pos : ℕ) → is_booked s pos ≡ false → booked_count (with_booked s pos) ≡ suc (booked_count s)
   pub acking : (s : Sending) (start : ℕ) (stored : List ℕ) (a : Acked) → acked s start stored ≡ Some a → Keeps s a.sending
+  pub giving_up : (s t : Sending) (to : ℕ) → given_up s to ≡ Ok t → Keeps s t

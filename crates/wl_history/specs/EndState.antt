@@ -1,5 +1,5 @@
 -- The state of an end, and what each call makes of it. Nothing here speaks of a history.
-use Rattle.std.specs.Prelude.{◌≡◌, ◌≤◌, ℕ, zero, suc, ◌+◌, ◌-◌, if◌then◌else◌, Bool, true, false, List, [], ◌∷◌, ◌++◌, length, slice_index_or, slice_set, Option, Some, None}
+use Rattle.std.specs.Prelude.{◌≡◌, ◌≤◌, ℕ, zero, suc, ◌+◌, ◌-◌, if◌then◌else◌, Bool, true, false, List, [], ◌∷◌, ◌++◌, length, slice_index_or, slice_set, Option, Some, None, Result, Ok, Err}
 use Rattle.wl_elem.specs.declared.lane.Lane.{Lane}
 use Rattle.wl_elem.specs.Element.{msdu_limit}
 use Rattle.wl_elem.specs.Lanes.{lane_index, lane_count}
@@ -9,9 +9,11 @@ use Rattle.wl_number.specs.Bookings.{no_bookings}
 use Rattle.wl_number.specs.OrderRule.{with_booking}
 use Rattle.wl_replay.specs.declared.replay.Pair.{Pair}
 use Rattle.wl_replay.specs.Replay.{is_above, last_of, no_pairs}
-use Rattle.wl_window.specs.Reordering.{Window, Moved, Arrived, Old, Doubled, Stored, arrived}
-use Rattle.wl_window.specs.Originating.{Sending, Acked, with_booked, acked}
+use Rattle.wl_window.specs.Reordering.{Window, Moved, Arrived, Old, Doubled, Stored, arrived, requested}
+use Rattle.wl_window.specs.Originating.{Sending, Acked, with_booked, acked, given_up}
+use Rattle.wl_window.specs.declared.refusal.MoveRefusal.{MoveRefusal}
 use Rattle.wl_history.specs.declared.ack.Ack.{Ack}
+use Rattle.wl_history.specs.declared.ack.Bar.{Bar}
 use Rattle.wl_history.specs.declared.arrival.Arrival.{Arrival}
 use Rattle.wl_history.specs.declared.hand.Hand.{Hand}
 use Rattle.wl_history.specs.declared.hand.Hand.TheVariants as hand
@@ -163,6 +165,11 @@ abbrev pub after_put : ℕ → ℕ → List ℕ → Outcome → EndState → End
 after_put thread link octets (outcomes.Put lane n retry) s = put_down thread (hand_of s.hands thread) (with_frame link octets lane n s)
 after_put thread link octets other s = put_down thread (hand_of s.hands thread) s
 
+-- the same for a booking that was named, which no hand holds
+abbrev pub after_again : ℕ → Lane → List ℕ → Outcome → EndState → EndState
+after_again link lane octets (outcomes.PutAgain n retry) s = with_frame link octets lane n s
+after_again link lane octets other s = s
+
 -- what goes up is released where its pair is above the last, which it then is
 pub record LetUp : Type 0 where
   pub positions : List ℕ
@@ -230,6 +237,29 @@ after_ack ack s = after_acked ack (acked_by ack s) s
 abbrev pub after_taken : Option Ack → EndState → EndState
 after_taken None s = s
 after_taken (Some ack) s = after_ack ack s
+
+-- the positions of a lane below this one are given up, where they can be
+abbrev pub given_by : Lane → ℕ → EndState → Result Sending MoveRefusal
+given_by lane to s = given_up (lane_at s (lane_index lane)).sending to
+
+abbrev pub after_given : Lane → Result Sending MoveRefusal → EndState → EndState
+after_given lane (Ok sending) s = with_sending (lane_index lane) sending s
+after_given lane (Err why) s = s
+
+abbrev pub after_bar_out : Lane → ℕ → EndState → EndState
+after_bar_out lane to s = after_given lane (given_by lane to s) s
+
+-- a request to move a window that is taken, where it is there
+abbrev pub moved_by : Bar → EndState → Option (Moved Arrival)
+moved_by bar s = requested (lane_at s (lane_index bar.lane)).window bar.start
+
+abbrev pub after_moved : Lane → Option (Moved Arrival) → EndState → EndState
+after_moved lane None s = s
+after_moved lane (Some moved) s = with_moved lane moved s
+
+abbrev pub after_request : Option Bar → EndState → EndState
+after_request None s = s
+after_request (Some bar) s = after_moved bar.lane (moved_by bar s) s
 
 -- what a receiver stores of a booking of this sender
 abbrev pub arrival_of : EndState → Lane → Numbers → Arrival

@@ -1,6 +1,6 @@
 -- Frames on the air: the octets that a booking is aired in, and what an end makes of octets that it
 -- hears (IEEE Std 802.11, 10.25.6 and 12.5.2; IEEE Std 802.11be, 35.3).
-use Rattle.std.specs.Prelude.{ℕ, ◌%◌, ◌==◌, ◌&&◌, if◌then◌else◌, not, Bool, true, false, List, [], ◌∷◌, Option, Some, None, Result, Ok, Err, ◌<◌, ◌^◌, bytes_eq}
+use Rattle.std.specs.Prelude.{ℕ, ◌+◌, ◌*◌, ◌/◌, ◌%◌, slice_set, slice_index_or, ◌==◌, ◌&&◌, if◌then◌else◌, not, Bool, true, false, List, [], ◌∷◌, Option, Some, None, Result, Ok, Err, ◌<◌, ◌^◌, bytes_eq}
 use Rattle.wl_elem.specs.declared.fault.Refusal.{Refusal}
 use Rattle.wl_elem.specs.declared.why.Why.TheVariants.{WrongAddress}
 use Rattle.wl_elem.specs.declared.lane.EndId.{EndId}
@@ -77,6 +77,15 @@ frame_of text start sender a = record {
 -- the octets on the air
 abbrev pub octets_of : Sealing → EndStart → EndId → Airing → List ℕ
 octets_of text start sender a = spelling (frame_of text start sender a)
+
+-- A frame with another sequence number. It stands in the upper 12 of the 16 bits at octet 22 (IEEE Std 802.11,
+-- 9.2.4.4); the lower ones are the fragment number.
+abbrev pub with_number : ℕ → List ℕ → List ℕ
+with_number number octets = slice_set (slice_set octets 22 (slice_index_or octets 22 0 % 16 + number % 16 * 16)) 23 (number / 16)
+
+-- a frame of this sender, sealed as if it had these numbers: a position below 4,096 is its sequence number
+abbrev pub forged : Sealing → EndStart → ℕ → Lane → Numbers → List ℕ → List ℕ
+forged text sender link lane n body = octets_of text sender sender.end (record { link = link; lane = lane; numbers = n; retry = false; body = body })
 
 -- a payload that a receiver tries to open
 pub record Closed : Type 0 where

@@ -20,10 +20,10 @@ use Rattle.wl_history.specs.declared.step.Step.{Step}
 use Rattle.wl_history.specs.Ends.{IsStart, start_of, is_link, send_size, receive_size}
 use Rattle.wl_history.specs.Hands.{hand_of}
 use Rattle.wl_history.specs.Words.{body_at}
-use Rattle.wl_history.specs.Answers.{reserve_answer, book_answer, put_of, ack_out_answer, ack_answer, install_answer, turn_answer}
+use Rattle.wl_history.specs.Answers.{booked_at, reserve_answer, book_answer, put_of, again_of, ack_out_answer, ack_answer, bar_out_answer, bar_answer, install_answer, turn_answer}
 use Rattle.wl_history.specs.Hearing.{Closed, Judged, Answered, ToOpen, judged, opened_under, sealed_under, text_of, booking_of}
 use Rattle.wl_history.specs.EndState.{EndState, lane_at, arrival_of, hear_answer}
-use Rattle.wl_history.specs.AirState.{AirState, end_of, octets_named, ack_named, state_of}
+use Rattle.wl_history.specs.AirState.{AirState, end_of, octets_heard, ack_named, bar_named, state_of}
 use Rattle.wl_elem.specs.Element.{msdu_limit}
 
 -- ---- hearing: `s` hears octets of `sender`
@@ -63,9 +63,14 @@ IsAnswer text thread (commands.Reserve end lane) a outcome =
     outcome ≡ reserve_answer (hand_of (end_of a end).hands thread) (length (lane_at (end_of a end) (lane_index lane)).queue) (lane_at (end_of a end) (lane_index lane)).sending (send_size (end_of a end).setup (lane_index lane))
 IsAnswer text thread (commands.Book end) a outcome = outcome ≡ book_answer (hand_of (end_of a end).hands thread) (end_of a end).numbers
 IsAnswer text thread (commands.Put end link) a outcome = outcome ≡ put_of link (hand_of (end_of a end).hands thread) (end_of a end)
-IsAnswer text thread (commands.Deliver end link nth) a outcome = HeardIf text (end_of a end) (end_of a (peer_of end)) link (octets_named a end link nth) outcome
+IsAnswer text thread (commands.Again end link lane pos) a outcome = outcome ≡ again_of link lane (booked_at (end_of a end) lane pos) (end_of a end)
+IsAnswer text thread (commands.Deliver end link nth) a outcome = HeardIf text (end_of a end) (end_of a (peer_of end)) link (octets_heard text (commands.Deliver end link nth) a) outcome
+IsAnswer text thread (commands.Alter end link nth number) a outcome = HeardIf text (end_of a end) (end_of a (peer_of end)) link (octets_heard text (commands.Alter end link nth number) a) outcome
+IsAnswer text thread (commands.Forge end link lane key pn number body) a outcome = HeardIf text (end_of a end) (end_of a (peer_of end)) link (octets_heard text (commands.Forge end link lane key pn number body) a) outcome
 IsAnswer text thread (commands.AckOut end lane) a outcome = outcome ≡ ack_out_answer (lane_at (end_of a end) (lane_index lane)).window
 IsAnswer text thread (commands.AckIn end nth) a outcome = outcome ≡ ack_answer (ack_named a end nth) (end_of a end)
+IsAnswer text thread (commands.BarOut end lane to) a outcome = outcome ≡ bar_out_answer lane to (end_of a end)
+IsAnswer text thread (commands.BarIn end nth) a outcome = outcome ≡ bar_answer (bar_named a end nth) (end_of a end)
 IsAnswer text thread (commands.Install end) a outcome = outcome ≡ install_answer (end_of a end).setup.keys
 IsAnswer text thread (commands.Turn end) a outcome = outcome ≡ turn_answer (end_of a end).numbers
 
@@ -93,10 +98,20 @@ ForgedIf text s sender link (Some octets) opened = (reading : Result FrameValue 
 
 -- The command hears a frame that opens though its sender never booked it.
 abbrev pub Forges : Sealing → Command → AirState → Opened → Type 0
-Forges text (commands.Deliver end link nth) a opened = ForgedIf text (end_of a end) (end_of a (peer_of end)) link (octets_named a end link nth) opened
+Forges text (commands.Deliver end link nth) a opened = ForgedIf text (end_of a end) (end_of a (peer_of end)) link (octets_heard text (commands.Deliver end link nth) a) opened
+Forges text (commands.Alter end link nth number) a opened = ForgedIf text (end_of a end) (end_of a (peer_of end)) link (octets_heard text (commands.Alter end link nth number) a) opened
+Forges text (commands.Forge end link lane key pn number body) a opened = ForgedIf text (end_of a end) (end_of a (peer_of end)) link (octets_heard text (commands.Forge end link lane key pn number body) a) opened
 Forges text other a opened = ⊥
 
 -- ---- histories
+
+-- a frame that somebody seals has numbers and a body as frames have them
+pub record IsSealable (pn number : ℕ) (body : List ℕ) : Type 0 where
+  pub some_pn : 1 ≤ pn
+  pub pn_limit : pn < 2 ^ 48
+  pub number_limit : number < 4096
+  pub some_body : 1 ≤ length body
+  pub body_limit : length body ≤ msdu_limit
 
 -- the members of a command are those of a scenario with this start
 abbrev pub Fits : Start → Command → Type 0
@@ -104,7 +119,11 @@ Fits start (commands.Queue end tid body) = (tid < 8) × (1 ≤ length body) × (
 Fits start (commands.Reserve end lane) = IsLane lane
 Fits start (commands.Put end link) = is_link (start_of start end) link ≡ true
 Fits start (commands.Deliver end link nth) = is_link (start_of start end) link ≡ true
+Fits start (commands.Again end link lane pos) = (is_link (start_of start end) link ≡ true) × IsLane lane
+Fits start (commands.Alter end link nth number) = (is_link (start_of start end) link ≡ true) × (number < 4096)
+Fits start (commands.Forge end link lane key pn number body) = (is_link (start_of start end) link ≡ true) × IsLane lane × IsSealable pn number body
 Fits start (commands.AckOut end lane) = IsLane lane
+Fits start (commands.BarOut end lane to) = IsLane lane
 Fits start other = Unit {0}
 
 -- a number that a command may name: of 32 bits
@@ -114,8 +133,13 @@ InWord nth = IfSome nth (λ n. n < 2 ^ 32)
 -- the links and numbers that a command names are in the ranges of their types
 abbrev pub InRanges : Command → Type 0
 InRanges (commands.Put end link) = link < 15
+InRanges (commands.Again end link lane pos) = (link < 15) × (pos < 2 ^ 32)
 InRanges (commands.Deliver end link nth) = (link < 15) × InWord nth
+InRanges (commands.Alter end link nth number) = (link < 15) × InWord nth
+InRanges (commands.Forge end link lane key pn number body) = (link < 15) × (key < 2 ^ 16)
 InRanges (commands.AckIn end nth) = InWord nth
+InRanges (commands.BarOut end lane to) = to < 2 ^ 32
+InRanges (commands.BarIn end nth) = InWord nth
 InRanges other = Unit {0}
 
 -- A step in a state.

@@ -13,3 +13,4 @@ pub mod Safe
 pub mod Stands
 pub mod Scripts
 pub mod Cursors
+pub mod Sent

@@ -24,7 +24,7 @@ use Rattle.wl_history.specs.Ends.{start_of, is_set_up}
 use Rattle.wl_history.specs.Words.{setup_of, queued, body_at, booked, Airing, airings, receiving}
 use Rattle.wl_history.specs.Hearing.{Closed, ToOpen, opened_under, sealed_under, text_of}
 use Rattle.wl_history.specs.EndState.{EndState, lane_at}
-use Rattle.wl_history.specs.AirState.{AirState, end_of, octets_named, state_of}
+use Rattle.wl_history.specs.AirState.{AirState, end_of, octets_heard, state_of}
 use Rattle.wl_history.specs.Legal.{judged_at}
 
 -- Order: of what a lane released, the latest first, each has a higher position than those before it.
@@ -62,10 +62,12 @@ pub record NumbersKept (text : Sealing) (start : Start) (e : EndId) (steps : Lis
 -- Link: a frame goes only to a link that its sender has set up and maps the lane to
 abbrev pub PutAllowed : Setup → ℕ → Outcome → Type 0
 PutAllowed setup link (outcomes.Put lane n retry) = is_set_up setup link ≡ true
+PutAllowed setup link (outcomes.PutAgain n retry) = is_set_up setup link ≡ true
 PutAllowed setup link other = Unit {0}
 
 abbrev pub StepAllowed : Start → List Step → Command → Outcome → Type 0
 StepAllowed start before (commands.Put end link) outcome = PutAllowed (setup_of (start_of start end) end before) link outcome
+StepAllowed start before (commands.Again end link lane pos) outcome = PutAllowed (setup_of (start_of start end) end before) link outcome
 StepAllowed start before other outcome = Unit {0}
 
 abbrev pub LinksKept : Start → List Step → Type 0
@@ -93,7 +95,9 @@ HeardOpened text s sender link octets (outcomes.Stored lane number n up) = Frame
 HeardOpened text s sender link octets other = Unit {0}
 
 abbrev pub StepOpened : Sealing → AirState → Command → Outcome → Type 0
-StepOpened text a (commands.Deliver end link nth) outcome = HeardOpened text (end_of a end) (end_of a (peer_of end)) link (octets_named a end link nth) outcome
+StepOpened text a (commands.Deliver end link nth) outcome = HeardOpened text (end_of a end) (end_of a (peer_of end)) link (octets_heard text (commands.Deliver end link nth) a) outcome
+StepOpened text a (commands.Alter end link nth number) outcome = HeardOpened text (end_of a end) (end_of a (peer_of end)) link (octets_heard text (commands.Alter end link nth number) a) outcome
+StepOpened text a (commands.Forge end link lane key pn number body) outcome = HeardOpened text (end_of a end) (end_of a (peer_of end)) link (octets_heard text (commands.Forge end link lane key pn number body) a) outcome
 StepOpened text a other outcome = Unit {0}
 
 -- by the state before each step

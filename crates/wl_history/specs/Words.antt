@@ -12,7 +12,7 @@ use Rattle.wl_number.specs.OrderRule.{with_booking}
 use Rattle.wl_replay.specs.declared.replay.Pair.{Pair}
 use Rattle.wl_replay.specs.Replay.{is_above}
 use Rattle.wl_number.specs.Bookings.{no_bookings}
-use Rattle.wl_window.specs.Reordering.{Window, Arrived, Stored, arrived}
+use Rattle.wl_window.specs.Reordering.{Window, Moved, Arrived, Stored, arrived, requested}
 use Rattle.wl_history.specs.declared.command.Command.{Command}
 use Rattle.wl_history.specs.declared.command.Command.TheVariants as commands
 use Rattle.wl_history.specs.declared.outcome.Outcome.{Outcome}
@@ -105,12 +105,20 @@ pub record Airing : Type 0 where
   pub retry : Bool
   pub body : List ℕ
 
+abbrev pub airing_made : EndId → List Step → ℕ → Lane → Numbers → Bool → Airing
+airing_made e before link lane numbers retry = record { link = link; lane = lane; numbers = numbers; retry = retry; body = body_at (queued e (lane_index lane) before) numbers.pos }
+
 abbrev pub airings_put : EndId → List Step → ℕ → Outcome → List Airing → List Airing
-airings_put e before link (outcomes.Put lane numbers retry) old = old ++ record { link = link; lane = lane; numbers = numbers; retry = retry; body = body_at (queued e (lane_index lane) before) numbers.pos } ∷ []
+airings_put e before link (outcomes.Put lane numbers retry) old = old ++ airing_made e before link lane numbers retry ∷ []
 airings_put e before link other old = old
+
+abbrev pub airings_again : EndId → List Step → ℕ → Lane → Outcome → List Airing → List Airing
+airings_again e before link lane (outcomes.PutAgain numbers retry) old = old ++ airing_made e before link lane numbers retry ∷ []
+airings_again e before link lane other old = old
 
 abbrev pub airings_after : EndId → List Step → Command → Outcome → List Airing → List Airing
 airings_after e before (commands.Put end link) outcome old = if same_end end e then airings_put e before link outcome old else old
+airings_after e before (commands.Again end link lane pos) outcome old = if same_end end e then airings_again e before link lane outcome old else old
 airings_after e before other outcome old = old
 
 abbrev pub airings : EndId → List Step → List Airing
@@ -149,9 +157,17 @@ abbrev pub release_all : List Arrival → List Arrival → List Arrival
 release_all [] released = released
 release_all (item ∷ up) released = release_all up (release item released)
 
+-- a window that moved, and what went up
+abbrev pub passed : Moved Arrival → Receiving → Receiving
+passed moved old = record { window = moved.window; released = release_all moved.up old.released }
+
 abbrev pub taken : Arrived Arrival → Receiving → Receiving
-taken (Stored moved) old = record { window = moved.window; released = release_all moved.up old.released }
+taken (Stored moved) old = passed moved old
 taken other old = old
+
+abbrev pub passed_if : Option (Moved Arrival) → Receiving → Receiving
+passed_if (Some moved) old = passed moved old
+passed_if None old = old
 
 abbrev pub received : EndStart → EndId → ℕ → List Step → Outcome → Receiving → Receiving
 received start e l before (outcomes.Stored lane number n up) old =
@@ -160,8 +176,15 @@ received start e l before (outcomes.Stored lane number n up) old =
     else old
 received start e l before other old = old
 
+abbrev pub moved_to : ℕ → Outcome → Receiving → Receiving
+moved_to l (outcomes.Moved lane start up) old = if at_place lane l then passed_if (requested old.window start) old else old
+moved_to l other old = old
+
 abbrev pub receiving_after : EndStart → EndId → ℕ → List Step → Command → Outcome → Receiving → Receiving
 receiving_after start e l before (commands.Deliver end link nth) outcome old = if same_end end e then received start e l before outcome old else old
+receiving_after start e l before (commands.Alter end link nth number) outcome old = if same_end end e then received start e l before outcome old else old
+receiving_after start e l before (commands.Forge end link lane key pn number body) outcome old = if same_end end e then received start e l before outcome old else old
+receiving_after start e l before (commands.BarIn end nth) outcome old = if same_end end e then moved_to l outcome old else old
 receiving_after start e l before other outcome old = old
 
 abbrev pub receiving : EndStart → EndId → ℕ → List Step → Receiving

@@ -1,6 +1,6 @@
 //! Commands.
 
-ghost use Rattle.std.specs.Prelude.{◌≡◌, IfOk};
+ghost use Rattle.std.specs.Prelude.{◌≡◌, ◌<◌, ◌^◌, IfOk};
 ghost use Rattle.wl_history.specs.Legal.{InRanges, InWord};
 
 use std::alloc::Global;
@@ -37,6 +37,17 @@ pub enum Command {
         /// The link.
         link: LinkId,
     },
+    /// Send a booking over a link again, or for the first time where it was kept: the same sealed payload.
+    Again {
+        /// The sender.
+        end: EndId,
+        /// The link.
+        link: LinkId,
+        /// The lane.
+        lane: Lane,
+        /// The position.
+        pos: u32,
+    },
     /// Hear a frame that the peer sent over a link.
     Deliver {
         /// The receiver.
@@ -45,6 +56,34 @@ pub enum Command {
         link: LinkId,
         /// Which frame, counted from 0; the latest where there is none.
         nth: Option<u32>,
+    },
+    /// Hear a frame that the peer sent over a link, with another sequence number.
+    Alter {
+        /// The receiver.
+        end: EndId,
+        /// The link.
+        link: LinkId,
+        /// Which frame, counted from 0; the latest where there is none.
+        nth: Option<u32>,
+        /// The sequence number, below 4,096.
+        number: u16,
+    },
+    /// Hear a frame of the peer that somebody sealed.
+    Forge {
+        /// The receiver.
+        end: EndId,
+        /// The link.
+        link: LinkId,
+        /// The lane.
+        lane: Lane,
+        /// The number of the key that it is sealed under.
+        key: u16,
+        /// The packet number, 1 to 2^48 - 1.
+        pn: u64,
+        /// The sequence number, below 4,096.
+        number: u16,
+        /// The body, of 1 to 2,304 octets.
+        body: Bytes,
     },
     /// Acknowledge what a lane has received.
     AckOut {
@@ -56,6 +95,22 @@ pub enum Command {
     /// Take an acknowledgement that the peer made.
     AckIn {
         /// The sender.
+        end: EndId,
+        /// Which, counted from 0; the latest where there is none.
+        nth: Option<u32>,
+    },
+    /// Give all positions of a lane below one up, and ask the peer to move its window there.
+    BarOut {
+        /// The sender.
+        end: EndId,
+        /// The lane.
+        lane: Lane,
+        /// The first position that isn't given up.
+        to: u32,
+    },
+    /// Take a request of the peer to move the window.
+    BarIn {
+        /// The receiver.
         end: EndId,
         /// Which, counted from 0; the latest where there is none.
         nth: Option<u32>,
@@ -77,6 +132,16 @@ fn test_number(nth: Option<u32>)
     ensures { InWord nth }
 {}
 
+/// A position is one of 32 bits.
+fn test_position(pos: u32)
+    ensures { pos < 2 ^ 32 }
+{}
+
+/// A key number is one of 16 bits.
+fn test_key(key: u16)
+    ensures { key < 2 ^ 16 }
+{}
+
 impl Command {
     /// Tells that the links that it names have IDs below 15, and the numbers 32 bits, as their types say.
     pub fn test(&self)
@@ -86,11 +151,25 @@ impl Command {
             Command::Put { link, .. } => {
                 link.get();
             }
+            Command::Again { link, pos, .. } => {
+                link.get();
+                test_position(*pos);
+            }
             Command::Deliver { link, nth, .. } => {
                 link.get();
                 test_number(*nth);
             }
+            Command::Alter { link, nth, .. } => {
+                link.get();
+                test_number(*nth);
+            }
+            Command::Forge { link, key, .. } => {
+                link.get();
+                test_key(*key);
+            }
             Command::AckIn { nth, .. } => test_number(*nth),
+            Command::BarOut { to, .. } => test_position(*to),
+            Command::BarIn { nth, .. } => test_number(*nth),
             _ => (),
         }
     }
@@ -114,16 +193,64 @@ impl Command {
                 end: *end,
                 link: *link,
             },
+            Command::Again {
+                end,
+                link,
+                lane,
+                pos,
+            } => Command::Again {
+                end: *end,
+                link: *link,
+                lane: *lane,
+                pos: *pos,
+            },
             Command::Deliver { end, link, nth } => Command::Deliver {
                 end: *end,
                 link: *link,
                 nth: *nth,
+            },
+            Command::Alter {
+                end,
+                link,
+                nth,
+                number,
+            } => Command::Alter {
+                end: *end,
+                link: *link,
+                nth: *nth,
+                number: *number,
+            },
+            Command::Forge {
+                end,
+                link,
+                lane,
+                key,
+                pn,
+                number,
+                body,
+            } => Command::Forge {
+                end: *end,
+                link: *link,
+                lane: *lane,
+                key: *key,
+                pn: *pn,
+                number: *number,
+                body: Bytes::from_slice(alloc, body.as_slice())?,
             },
             Command::AckOut { end, lane } => Command::AckOut {
                 end: *end,
                 lane: *lane,
             },
             Command::AckIn { end, nth } => Command::AckIn {
+                end: *end,
+                nth: *nth,
+            },
+            Command::BarOut { end, lane, to } => Command::BarOut {
+                end: *end,
+                lane: *lane,
+                to: *to,
+            },
+            Command::BarIn { end, nth } => Command::BarIn {
                 end: *end,
                 nth: *nth,
             },

@@ -1,43 +1,51 @@
 //! Laws of the definitions, each the contract of a function that does nothing.
 
-ghost use Rattle.std.specs.Prelude.{◌≡◌, ◌≢◌, ◌≤◌, ℕ, List, length, Result};
+ghost use Rattle.std.specs.Prelude.{◌≡◌, ◌≢◌, ◌+◌, ◌<◌, ◌≤◌, ◌∷◌, ℕ, false, List, Option, Some, length, Result};
+ghost use Rattle.std.specs.List.{Contains};
 ghost use Rattle.wl_elem.specs.Element.{msdu_limit};
 ghost use Rattle.wl_elem.specs.declared.fault.Refusal.{Refusal};
 ghost use Rattle.wl_elem.specs.declared.lane.EndId.{EndId};
 ghost use Rattle.wl_elem.specs.declared.lane.Lane.{Lane};
 ghost use Rattle.wl_elem.specs.Lanes.{lane_index, IsLane};
-ghost use Rattle.wl_frame.specs.Frame.{FrameValue};
+ghost use Rattle.wl_frame.specs.Frame.{FrameValue, IsHeader, spelling};
 ghost use Rattle.wl_frame.specs.Refusals.{ReadAs};
 ghost use Rattle.wl_frame.specs.Sealing.{Sealing};
 ghost use Rattle.wl_number.specs.declared.numbers.Numbers.{Numbers};
 ghost use Rattle.wl_number.specs.NumberObject.{drawn};
-ghost use Rattle.wl_window.specs.Reordering.{Arrived};
+ghost use Rattle.wl_number.specs.OrderRule.{OrderRule, list_of};
+ghost use Rattle.wl_window.specs.Originating.{is_done};
+ghost use Rattle.wl_window.specs.Reordering.{Arrived, Moved};
 ghost use Rattle.wl_history.specs.declared.ack.Ack.{Ack};
 ghost use Rattle.wl_history.specs.declared.arrival.Arrival.{Arrival};
 ghost use Rattle.wl_history.specs.declared.command.Command.{Command};
+ghost use Rattle.wl_history.specs.declared.command.Command.TheVariants.{Turn};
 ghost use Rattle.wl_history.specs.declared.hand.Hand.TheVariants.{Empty, Reserve, Booking};
 ghost use Rattle.wl_history.specs.declared.outcome.Outcome.{Outcome};
-ghost use Rattle.wl_history.specs.declared.outcome.Outcome.TheVariants.{Reserved, Spent, Booked};
+ghost use Rattle.wl_history.specs.declared.outcome.Outcome.TheVariants.{Reserved, Spent, Booked, Turned};
 ghost use Rattle.wl_history.specs.declared.setup.Setup.{Setup};
 ghost use Rattle.wl_history.specs.declared.start.EndStart.{EndStart};
 ghost use Rattle.wl_history.specs.declared.start.Start.{Start};
 ghost use Rattle.wl_history.specs.declared.step.Step.{Step};
 ghost use Rattle.wl_history.specs.Below.{NumberLaws, WindowLaws};
 ghost use Rattle.wl_history.specs.Hands.{hand_of};
-ghost use Rattle.wl_history.specs.Hearing.{Answered, Closed, IsClosed, ToOpen, judged};
-ghost use Rattle.wl_history.specs.EndState.{EndState, IsEnd, lane_at, started, with_hand, with_frame, after_queue, after_reserve, after_book, after_arrived, after_ack, after_install, after_turn};
+ghost use Rattle.wl_history.specs.Answers.{at_position};
+ghost use Rattle.wl_history.specs.Ends.{start_of};
+ghost use Rattle.wl_history.specs.Hearing.{Answered, Closed, IsClosed, ToOpen, judged, with_number};
+ghost use Rattle.wl_history.specs.Words.{Airing, airings, send_key};
+ghost use Rattle.wl_history.specs.EndState.{EndState, IsEnd, lane_at, started, with_hand, with_frame, after_queue, after_reserve, after_book, after_arrived, after_ack, after_bar_out, after_moved, after_install, after_turn};
 ghost use Rattle.wl_history.specs.AirState.{AirState, end_of, state_of};
 ghost use Rattle.wl_history.specs.Plain.{IsPlain};
 ghost use Rattle.wl_history.specs.Legal.{IsAnswer, Legal};
 ghost use Rattle.wl_history.specs.Stands.{EndStands};
-ghost use Rattle.wl_history.specs.Scripts.{asked};
-ghost use Rattle.wl_history.specs.Safe.{Safe};
+ghost use Rattle.wl_history.specs.Scripts.{asked, step_of};
+ghost use Rattle.wl_history.specs.Safe.{Safe, text_aired};
+ghost use Rattle.wl_history.specs.Sent.{Airs};
 
 use wl_frame::read_once;
 use wl_number::{
     a_draw_is_next, booked_once, highest_breaks_none, in_pair_order, pairs_in_order, stands_exactly,
 };
-use wl_window::{booked_after_ack, booked_after_booking};
+use wl_window::{booked_after_ack, booked_after_booking, booked_after_giving_up};
 
 /// What the crates below say of bookings, and of windows that send.
 fn laws_below()
@@ -49,21 +57,24 @@ fn laws_below()
     a_draw_is_next();
     pairs_in_order();
     booked_after_booking();
-    booked_after_ack()
+    booked_after_ack();
+    booked_after_giving_up()
 }
 
-/// What each call keeps of an end, whatever it is told: its bookings keep their order and lie below the
-/// numbers that come next, each reserve and each booking is of a queued body, and hands hold what is
-/// booked.
+/// What each call keeps of an end, whatever it is told: its bookings keep their order, lie below the
+/// numbers that come next and leave no position out, each reserve and each booking is of a queued body,
+/// hands hold what is booked, and windows keep to the sizes and the room that they may have.
 pub fn an_end_keeps()
     ensures queue { (s : EndState) (l : ℕ) (body : List ℕ) → IsEnd s → length body ≤ msdu_limit → IsEnd (after_queue l body s) }
     ensures reserve { (s : EndState) (thread : ℕ) (lane : Lane) → IsEnd s → IsLane lane → hand_of s.hands thread ≡ Empty → (lane_at s (lane_index lane)).sending.granted ≢ length (lane_at s (lane_index lane)).queue → IsEnd (after_reserve thread lane Reserved s) }
     ensures give_back { (s : EndState) (thread : ℕ) (lane : Lane) → IsEnd s → hand_of s.hands thread ≡ Reserve lane → IsEnd (after_book thread (Spent lane) s) }
     ensures book { (s : EndState) (thread : ℕ) (lane : Lane) → IsEnd s → hand_of s.hands thread ≡ Reserve lane → IsEnd (after_book thread (Booked lane (drawn s.numbers lane)) s) }
     ensures put_down { (s : EndState) (thread : ℕ) (lane : Lane) (n : Numbers) → IsEnd s → hand_of s.hands thread ≡ Booking lane n → IsEnd (with_hand thread Empty s) }
-    ensures air { (s : EndState) (thread : ℕ) (lane : Lane) (n : Numbers) (link : ℕ) (octets : List ℕ) → IsEnd s → hand_of s.hands thread ≡ Booking lane n → IsEnd (with_hand thread Empty (with_frame link octets lane n s)) }
+    ensures frame { (s : EndState) (lane : Lane) (n : Numbers) (link : ℕ) (octets : List ℕ) → IsEnd s → IsEnd (with_frame link octets lane n s) }
     ensures hear { (s : EndState) (lane : Lane) (come : Arrived Arrival) → IsEnd s → IsEnd (after_arrived lane come s) }
     ensures ack { (ack : Ack) (s : EndState) → IsEnd s → IsEnd (after_ack ack s) }
+    ensures give_up { (lane : Lane) (to : ℕ) (s : EndState) → IsEnd s → IsEnd (after_bar_out lane to s) }
+    ensures pass { (lane : Lane) (moved : Option (Moved Arrival)) (s : EndState) → IsEnd s → IsEnd (after_moved lane moved s) }
     ensures install { (o : Outcome) (s : EndState) → IsEnd s → IsEnd (after_install o s) }
     ensures turn { (o : Outcome) (s : EndState) → IsEnd s → IsEnd (after_turn o s) }
     ensures start { (start : EndStart) → 1 ≤ start.window → start.window ≤ 256 → IsEnd (started start) }
@@ -72,7 +83,7 @@ pub fn an_end_keeps()
 }
 
 /// The state that a legal history leaves has what the words of the history say: what each end queued,
-/// booked, aired and released, and the key that it sends under.
+/// booked, aired and released, the key that it sends under, and what it has set up.
 pub fn words_are_told()
     ensures { (text : Sealing) (start : Start) (steps : List Step) → Legal text start steps → (e : EndId) → EndStands text start e (end_of (state_of text start steps) e) steps }
 {
@@ -117,3 +128,40 @@ pub fn what_is_judged_is_plain()
     ensures { (start : EndStart) (setup : Setup) (e : EndId) (link : ℕ) (reading : Result FrameValue Refusal) (outcome : Outcome)
         → judged start setup e link reading ≡ Answered outcome → IsPlain outcome }
 {}
+
+/// A booking is found at its position, where the bookings of its lane keep their order.
+pub fn a_booking_is_found()
+    ensures { (lanes : List (List Numbers)) (lane : Lane) (n : Numbers) → OrderRule lanes → Contains (list_of lanes lane) n → at_position n.pos (list_of lanes lane) ≡ Some n }
+{}
+
+/// A frame with another sequence number is the frame that has it in the place of its own.
+pub fn another_number()
+    ensures { (number : ℕ) (f : FrameValue) → IsHeader f.header → number < 4096 → with_number number (spelling f) ≡ spelling (record f { header = record f.header { number = number } }) }
+{}
+
+/// Whatever is aired isn't done: a position that was acknowledged or given up is never aired again.
+pub fn what_is_done_stays_down()
+    ensures { (text : Sealing) (start : Start) (step : Step) (before : List Step) → Legal text start (step ∷ before) → (e : EndId) (lane : Lane) (n : Numbers) → Airs e step lane n
+        → is_done (lane_at (end_of (state_of text start before) e) (lane_index lane)).sending n.pos ≡ false }
+{}
+
+/// A retry is the same: all frames that an end airs of a position carry one key number, one packet number
+/// and one sealed text, whatever links they go over and whatever key is sent under by then.
+pub fn a_retry_is_the_same()
+    ensures { (text : Sealing) (start : Start) (steps : List Step) → Legal text start steps → (e : EndId) (a b : Airing) → Contains (airings e steps) a → Contains (airings e steps) b
+        → a.lane ≡ b.lane → a.numbers.pos ≡ b.numbers.pos → (a.numbers ≡ b.numbers) × (text_aired text (start_of start e) e a ≡ text_aired text (start_of start e) e b) }
+{
+    laws_below();
+    pairs_in_order()
+}
+
+/// After a turn the key is the next one, and what is booked first under it has packet number 1.
+pub fn a_turn_begins_anew()
+    ensures { (text : Sealing) (start : Start) (thread : ℕ) (e : EndId) (key : ℕ) (before : List Step) → Legal text start (step_of thread (Turn e) (Turned key) ∷ before) → (lane : Lane)
+        → (key ≡ send_key (start_of start e) e before + 1)
+        × ((drawn (end_of (state_of text start (step_of thread (Turn e) (Turned key) ∷ before)) e).numbers lane).key ≡ key)
+        × ((drawn (end_of (state_of text start (step_of thread (Turn e) (Turned key) ∷ before)) e).numbers lane).pn ≡ 1) }
+{
+    laws_below();
+    pairs_in_order()
+}

@@ -16,14 +16,15 @@ mod setup;
 mod start;
 mod step;
 
-pub use ack::Ack;
+pub use ack::{Ack, Bar};
 pub use arrival::Arrival;
 pub use command::Command;
 pub use cursor::Cursor;
 pub use hand::Hand;
 pub use laws::{
-    an_end_keeps, every_history_is_safe, one_answer, one_history, what_is_judged_is_plain,
-    what_opens_fits, words_are_told,
+    a_booking_is_found, a_retry_is_the_same, a_turn_begins_anew, an_end_keeps, another_number,
+    every_history_is_safe, one_answer, one_history, what_is_done_stays_down,
+    what_is_judged_is_plain, what_opens_fits, words_are_told,
 };
 pub use lists::{Positions, PositionsRoom, SequenceNumbers};
 pub use opened::Opened;

@@ -62,8 +62,20 @@ pub enum Outcome {
         /// Why.
         why: KeptWhy,
     },
-    /// The hand holds no booking, or it is done.
+    /// The hand holds no booking, the position isn't booked, or it is done.
     Nothing,
+    /// The frame of the booking that was named was sent.
+    PutAgain {
+        /// Position, key number and packet number.
+        numbers: Numbers,
+        /// Whether it was sent before.
+        retry: bool,
+    },
+    /// The booking that was named may not go over this link.
+    KeptAgain {
+        /// Why.
+        why: KeptWhy,
+    },
     /// There is no such frame or record.
     NotThere,
     /// The octets aren't a frame for this end.
@@ -112,6 +124,26 @@ pub enum Outcome {
         /// How many positions are done since.
         count: u32,
     },
+    /// The positions were given up, and a request was made.
+    Barred {
+        /// The first position that isn't done, modulo 4,096.
+        start: u16,
+    },
+    /// One of the positions isn't booked.
+    NotBooked,
+    /// All of the positions are done already.
+    Behind,
+    /// The request is no further than the window's start, or 2,048 and more ahead of it.
+    OldBar,
+    /// The window was moved.
+    Moved {
+        /// Its lane.
+        lane: Lane,
+        /// The start that was asked for, modulo 4,096.
+        start: u16,
+        /// The positions released in this step, in order.
+        up: Positions,
+    },
     /// The next key is held.
     Installed {
         /// Its number.
@@ -159,6 +191,11 @@ impl Outcome {
                 why: *why,
             },
             Outcome::Nothing => Outcome::Nothing,
+            Outcome::PutAgain { numbers, retry } => Outcome::PutAgain {
+                numbers: *numbers,
+                retry: *retry,
+            },
+            Outcome::KeptAgain { why } => Outcome::KeptAgain { why: *why },
             Outcome::NotThere => Outcome::NotThere,
             Outcome::BadFrame { why, place } => Outcome::BadFrame {
                 why: *why,
@@ -175,6 +212,11 @@ impl Outcome {
             Outcome::Acked { .. } => unreachable!(),
             Outcome::OldAck => Outcome::OldAck,
             Outcome::Done { count } => Outcome::Done { count: *count },
+            Outcome::Barred { start } => Outcome::Barred { start: *start },
+            Outcome::NotBooked => Outcome::NotBooked,
+            Outcome::Behind => Outcome::Behind,
+            Outcome::OldBar => Outcome::OldBar,
+            Outcome::Moved { .. } => unreachable!(),
             Outcome::Installed { key } => Outcome::Installed { key: *key },
             Outcome::Turned { key } => Outcome::Turned { key: *key },
             Outcome::KeysSpent => Outcome::KeysSpent,
@@ -196,6 +238,11 @@ impl Outcome {
                 lane: *lane,
                 number: *number,
                 numbers: *numbers,
+                up: up.copy_into(room),
+            },
+            Outcome::Moved { lane, start, up } => Outcome::Moved {
+                lane: *lane,
+                start: *start,
                 up: up.copy_into(room),
             },
             other => other.again(),

@@ -2,6 +2,7 @@ pub mod Members
 pub mod Wholes
 pub mod Among
 pub mod Scripts
+pub mod Counts
 pub mod Sounds
 pub mod Lanes
 pub mod Readings

@@ -18,7 +18,11 @@ object_of ms = object (with_members ms no_members)
 abbrev pub whole : ℕ → Data
 whole n = number (unsigned n)
 
+-- a list, each element shown so
+abbrev pub listed : {A : Type 0} → (A → Data) → List A → Items
+listed shown [] = no_items
+listed shown (x ∷ xs) = item (shown x) (listed shown xs)
+
 -- a list of numbers
 abbrev pub wholes : List ℕ → Items
-wholes [] = no_items
-wholes (n ∷ ns) = item (whole n) (wholes ns)
+wholes ns = listed whole ns

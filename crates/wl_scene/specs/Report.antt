@@ -4,7 +4,7 @@ use Rattle.serde_json.specs.Data.{Data, array, Items, no_items, item}
 use Rattle.serde_json.specs.Written.{compact_text}
 use Rattle.wl_elem.specs.Links.{link_limit, has_link}
 use Rattle.wl_scene.specs.declared.totals.Totals.{Totals}
-use Rattle.wl_scene.specs.Objects.{Named, object_of, whole, wholes}
+use Rattle.wl_scene.specs.Objects.{Named, object_of, whole, listed, wholes}
 
 -- positions that rise by one, from the first to the last
 pub record Run : Type 0 where
@@ -28,8 +28,7 @@ abbrev pub run_data : Run → Data
 run_data r = array (item (whole r.first) (item (whole r.last) no_items))
 
 abbrev pub runs_data : List Run → Items
-runs_data [] = no_items
-runs_data (r ∷ rs) = item (run_data r) (runs_data rs)
+runs_data rs = listed run_data rs
 
 -- so many links from this ID on, those that are in the set
 abbrev pub chosen : ℕ → ℕ → ℕ → List ℕ

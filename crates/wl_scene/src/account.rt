@@ -30,7 +30,7 @@ fn lane_of(place: u8) -> Lane
 }
 
 /// No links.
-fn no_links() -> LinkSet
+pub(crate) fn no_links() -> LinkSet
     ensures { result ≡ 0 }
 {
     match LinkSet::from_bits(0) {

@@ -1,19 +1,23 @@
 //! The members of a scenario outside its commands.
 
-ghost use Rattle.std.specs.Prelude.{◌≡◌, ◌≢◌, ◌&&◌, codes, option_map, option_and_then, IfSome, IsSome};
+ghost use Rattle.std.specs.Prelude.{◌≡◌, ◌≢◌, ◌≤◌, ◌&&◌, codes, option_map, option_and_then, IfSome, IfOk, IsOk};
 ghost use Rattle.serde_json.specs.View.{view, items_view};
-ghost use Rattle.wl_elem.specs.Links.{link_limit};
-ghost use Rattle.wl_scene.specs.Members.{below, number_at, list_at, has_only as only_has, has_number as has_this_number};
-ghost use Rattle.wl_scene.specs.Scene.{link_of, one_link, head_names, apart, head_of, commands_of};
-ghost use Rattle.wl_scene.specs.Sound.{IsSoundLink, IsSoundHead};
+ghost use Rattle.wl_scene.specs.Answering.{Gives};
+ghost use Rattle.wl_scene.specs.Members.{whole_of, in_range, has_only as only_has, has_number as has_this_number};
+ghost use Rattle.wl_scene.specs.Scene.{window_at, head_names, apart, head_of, commands_of};
+ghost use Rattle.wl_scene.specs.Sound.{IsSoundHead};
 
-use crate::member::{address, has_number, has_only, key, list, whole};
+use crate::fault::Stop;
+use crate::first::{Firsts, read_firsts};
+use crate::links::links;
+use crate::member::{address, has_number, has_only, key};
 use serde_json::Value;
-use wl_elem::{LinkId, MacAddr};
-use wl_history::LinkStart;
+use std::alloc::Global;
+use wl_elem::MacAddr;
+use wl_history::LinkStarts;
 
 /// What a scenario says outside its commands.
-#[derive(Clone, Copy, Debug, PartialEq, Eq)]
+#[derive(Debug, Drop)]
 pub struct Head {
     /// The AP MLD's address.
     pub ap: MacAddr,
@@ -21,104 +25,103 @@ pub struct Head {
     pub sta: MacAddr,
     /// The base of all keys.
     pub key: [u8; 16],
-    /// The one link.
-    pub link: LinkStart,
+    /// The links, 1 to 4.
+    pub links: LinkStarts,
+    /// The size of the windows, 1 to 256.
+    pub window: u16,
+    /// What both ends send first.
+    pub firsts: Firsts,
 }
 
-/// A number below 15.
-fn id_of(n: u64) -> Option<LinkId>
-    ensures { result ≡ below link_limit n }
-{
-    match u8::try_from(n) {
-        Ok(n) => LinkId::new(n),
-        Err(_) => None,
-    }
-}
-
-/// The member `id`.
-fn id(value: &Value) -> Option<LinkId>
-    ensures { result ≡ number_at (codes "id") link_limit (view value.now) }
-{
-    match whole(value, "id") {
-        Some(n) => id_of(n),
-        None => None,
-    }
-}
-
-/// A link.
-fn link(value: &Value) -> Option<LinkStart>
-    ensures read { result ≡ link_of (view value.now) }
-    ensures sound { IfSome result IsSoundLink }
-{
-    if !has_only(value, &["id", "ap", "sta"]) {
-        return None;
-    }
-    let id = id(value)?;
-    let ap = address(value, "ap")?;
-    let sta = address(value, "sta")?;
-    Some(LinkStart { id, ap, sta })
-}
-
-/// The one link of a list.
-fn only_link(values: &[Value]) -> Option<LinkStart>
-    ensures read { result ≡ one_link (items_view values.now) }
-    ensures sound { IfSome result IsSoundLink }
-{
-    match values {
-        [] => None,
-        [value] => link(value),
-        [_, _, ..] => None,
-    }
-}
-
-/// The member `links`.
-fn links(value: &Value) -> Option<LinkStart>
-    ensures read { result ≡ option_and_then one_link (list_at (codes "links") (view value.now)) }
-    ensures sound { IfSome result IsSoundLink }
-{
-    match list(value, "links") {
-        Some(values) => only_link(values),
-        None => None,
-    }
-}
-
-/// Whether the object has no other members, version 1 and window 1.
+/// Whether the object has no other members, and version 1.
 fn has_version(value: &Value) -> bool
-    ensures { result ≡ (only_has head_names (view value.now) && (has_this_number (codes "version") 1 (view value.now) && has_this_number (codes "window") 1 (view value.now))) }
+    ensures { result ≡ (only_has head_names (view value.now) && has_this_number (codes "version") 1 (view value.now)) }
 {
     has_only(
         value,
-        &["version", "ap", "sta", "key", "links", "window", "before"],
+        &[
+            "version", "ap", "sta", "key", "links", "window", "first", "before",
+        ],
     ) && has_number(value, "version", 1)
-        && has_number(value, "window", 1)
+}
+
+/// A number from 1 to 256.
+fn window_of(n: u64) -> Option<u16>
+    ensures value { result ≡ in_range 1 256 n }
+    ensures range { IfSome result (λ w. (1 ≤ w) × (w ≤ 256)) }
+{
+    if n == 0 || n > 256 {
+        return None;
+    }
+    Some(n as u16)
+}
+
+/// The member `window`, 1 to 256; 64 where it is left out. None where it is wrong.
+fn window(value: &Value) -> Option<u16>
+    ensures value { result ≡ window_at (view value.now) }
+    ensures range { IfSome result (λ n. (1 ≤ n) × (n ≤ 256)) }
+{
+    match value.get("window") {
+        Some(member) => match member.as_u64() {
+            Some(n) => window_of(n),
+            None => None,
+        },
+        None => Some(64),
+    }
 }
 
 /// The head, where its two addresses differ.
-fn if_apart(head: Head) -> Option<Head>
-    ensures apart { result ≡ apart head }
-    ensures same { IfSome result (λ h. h ≡ head) }
-    ensures different { IsSome result → head.ap ≢ head.sta }
+fn if_apart(head: Head) -> Result<Head, Stop>
+    ensures apart { Gives result (apart head) }
+    ensures same { IfOk result (λ h. h ≡ head) }
+    ensures different { IsOk result → head.ap ≢ head.sta }
 {
     if head.ap == head.sta {
-        return None;
+        return Err(Stop::Wrong);
     }
-    Some(head)
+    Ok(head)
 }
 
-/// The members outside the commands. None where one is wrong, is missing or is one more.
+/// The members outside the commands. Wrong where one is wrong, is missing or is one more.
 #[tactic(auto, unfolding(crate::specs::Scene::head_of))]
-pub fn read_head(value: &Value) -> Option<Head>
-    ensures read { result ≡ head_of (view value.now) }
-    ensures sound { IfSome result IsSoundHead }
+pub fn read_head(alloc: Global, value: &Value) -> Result<Head, Stop>
+    ensures read { Gives result (head_of (view value.now)) }
+    ensures sound { IfOk result IsSoundHead }
 {
     if !has_version(value) {
-        return None;
+        return Err(Stop::Wrong);
     }
-    let ap = address(value, "ap")?;
-    let sta = address(value, "sta")?;
-    let key = key(value, "key")?;
-    let link = links(value)?;
-    if_apart(Head { ap, sta, key, link })
+    let ap = match address(value, "ap") {
+        Some(ap) => ap,
+        None => return Err(Stop::Wrong),
+    };
+    let sta = match address(value, "sta") {
+        Some(sta) => sta,
+        None => return Err(Stop::Wrong),
+    };
+    let key = match key(value, "key") {
+        Some(key) => key,
+        None => return Err(Stop::Wrong),
+    };
+    let window = match window(value) {
+        Some(window) => window,
+        None => return Err(Stop::Wrong),
+    };
+    let firsts = match read_firsts(value) {
+        Some(firsts) => firsts,
+        None => return Err(Stop::Wrong),
+    };
+    match links(alloc, value) {
+        Ok(links) => if_apart(Head {
+            ap,
+            sta,
+            key,
+            links,
+            window,
+            firsts,
+        }),
+        Err(stop) => Err(stop),
+    }
 }
 
 /// The commands; none where they are left out. None where they aren't a list.

@@ -4,10 +4,14 @@
 mod account;
 mod commands;
 mod fault;
+mod field;
+mod first;
 mod head;
+mod items;
 mod journal;
 mod laws;
 mod line;
+mod links;
 mod member;
 mod numbers;
 mod object;

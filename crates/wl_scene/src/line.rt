@@ -41,9 +41,14 @@ fn command_text(command: &Command) -> &'static str
         Command::Reserve { .. } => "reserve",
         Command::Book { .. } => "book",
         Command::Put { .. } => "put",
+        Command::Again { .. } => "again",
         Command::Deliver { .. } => "deliver",
+        Command::Alter { .. } => "alter",
+        Command::Forge { .. } => "forge",
         Command::AckOut { .. } => "ack_out",
         Command::AckIn { .. } => "ack_in",
+        Command::BarOut { .. } => "bar_out",
+        Command::BarIn { .. } => "bar_in",
         Command::Install { .. } => "install",
         Command::Turn { .. } => "turn",
     }
@@ -65,6 +70,8 @@ fn answer_text(outcome: &Outcome) -> &'static str
         Outcome::Put { .. } => "put",
         Outcome::Kept { .. } => "kept",
         Outcome::Nothing => "nothing",
+        Outcome::PutAgain { .. } => "put",
+        Outcome::KeptAgain { .. } => "kept",
         Outcome::NotThere => "notthere",
         Outcome::BadFrame { .. } => "badframe",
         Outcome::LinkDown => "linkdown",
@@ -78,6 +85,11 @@ fn answer_text(outcome: &Outcome) -> &'static str
         Outcome::Acked { .. } => "acked",
         Outcome::OldAck => "oldack",
         Outcome::Done { .. } => "done",
+        Outcome::Barred { .. } => "barred",
+        Outcome::NotBooked => "notbooked",
+        Outcome::Behind => "behind",
+        Outcome::OldBar => "oldbar",
+        Outcome::Moved { .. } => "moved",
         Outcome::Installed { .. } => "installed",
         Outcome::Turned { .. } => "turned",
         Outcome::KeysSpent => "keysspent",
@@ -109,7 +121,15 @@ impl Object {
         self.put_number("link", u64::from(link.get()))
     }
 
-    /// Puts the number of a frame or an acknowledgement in; null stands for the latest.
+    /// Puts the end that acts in, and the link.
+    fn put_over(&mut self, end: EndId, link: LinkId) -> Result<(), Memory>
+        ensures { OnOk result (built self.new ≡ with_members (end_member end ∷ link_member link ∷ []) (built self.old)) }
+    {
+        self.put_end(end)?;
+        self.put_link(link)
+    }
+
+    /// Puts the number of a frame, an acknowledgement or a request in; null stands for the latest.
     fn put_nth(&mut self, nth: Option<u32>) -> Result<(), Memory>
         ensures { OnOk result (built self.new ≡ put (codes "nth") (nth_data nth) (built self.old)) }
     {
@@ -156,29 +176,49 @@ impl Object {
                 self.put_number("tid", u64::from(tid.get()))?;
                 self.put_number("size", body.as_slice().len() as u64)
             }
-            Command::Reserve { end, lane } => {
+            Command::Reserve { end, lane } | Command::AckOut { end, lane } => {
                 self.put_end(*end)?;
                 self.put_lane(*lane)
             }
-            Command::Book { end } => self.put_end(*end),
-            Command::Put { end, link } => {
-                self.put_end(*end)?;
-                self.put_link(*link)
+            Command::Put { end, link } | Command::Forge { end, link, .. } => {
+                self.put_over(*end, *link)
+            }
+            Command::Again {
+                end,
+                link,
+                lane,
+                pos,
+            } => {
+                self.put_over(*end, *link)?;
+                self.put_lane(*lane)?;
+                self.put_number("pos", u64::from(*pos))
             }
             Command::Deliver { end, link, nth } => {
-                self.put_end(*end)?;
-                self.put_link(*link)?;
+                self.put_over(*end, *link)?;
                 self.put_nth(*nth)
             }
-            Command::AckOut { end, lane } => {
-                self.put_end(*end)?;
-                self.put_lane(*lane)
+            Command::Alter {
+                end,
+                link,
+                nth,
+                number,
+            } => {
+                self.put_over(*end, *link)?;
+                self.put_nth(*nth)?;
+                self.put_number("number", u64::from(*number))
             }
-            Command::AckIn { end, nth } => {
+            Command::AckIn { end, nth } | Command::BarIn { end, nth } => {
                 self.put_end(*end)?;
                 self.put_nth(*nth)
             }
-            Command::Install { end } | Command::Turn { end } => self.put_end(*end),
+            Command::BarOut { end, lane, to } => {
+                self.put_end(*end)?;
+                self.put_lane(*lane)?;
+                self.put_number("to", u64::from(*to))
+            }
+            Command::Book { end } | Command::Install { end } | Command::Turn { end } => {
+                self.put_end(*end)
+            }
         }
     }
 
@@ -199,6 +239,12 @@ impl Object {
                 self.put_booking(*lane, *numbers)
             }
             Outcome::Kept { lane, pos, why } => self.put_kept(*lane, *pos, *why),
+            Outcome::PutAgain { numbers, retry } => {
+                self.put_bool("retry", *retry)?;
+                self.put_number("key", u64::from(numbers.key))?;
+                self.put_number("pn", numbers.pn)
+            }
+            Outcome::KeptAgain { why } => self.put_text("why", kept_text(*why)),
             Outcome::BadFrame { why, place } => self.put_refusal(*why, *place),
             Outcome::Stored {
                 lane,
@@ -215,6 +261,8 @@ impl Object {
                 self.put_u16s("stored", stored.as_slice())
             }
             Outcome::Done { count } => self.put_number("count", u64::from(*count)),
+            Outcome::Barred { start } => self.put_number("start", u64::from(*start)),
+            Outcome::Moved { up, .. } => self.put_u32s("up", up.as_slice()),
             Outcome::Installed { key } | Outcome::Turned { key } => {
                 self.put_number("key", u64::from(*key))
             }

@@ -3,7 +3,7 @@
 ghost use Rattle.std.specs.Prelude.{◌≡◌, ◌<◌, ◌^◌, ◌≤◌, map, option_map, option_and_then, IfSome, length};
 ghost use Rattle.serde_json.specs.Find.{get};
 ghost use Rattle.serde_json.specs.View.{view, members_view, items_view};
-ghost use Rattle.wl_scene.specs.Members.{is_among, are_among, has_only as only_has, whole_of, number_at, text_at, list_at, octets_at, has_number as has_this_number, has_text as has_this_text};
+ghost use Rattle.wl_scene.specs.Members.{is_among, are_among, has_only as only_has, whole_at, text_at, list_at, octets_at, has_number as has_this_number, has_text as has_this_text};
 
 use hex::FromHex;
 use serde_json::{Map, Value};
@@ -45,7 +45,7 @@ pub fn has_only(value: &Value, names: &[&str]) -> bool
 
 /// The whole number that a member is.
 pub fn whole(value: &Value, name: &str) -> Option<u64>
-    ensures { result ≡ option_and_then whole_of (get name.now (view value.now)) }
+    ensures { result ≡ whole_at name.now (view value.now) }
 {
     match value.get(name) {
         Some(member) => member.as_u64(),

@@ -7,6 +7,6 @@ use wl_history::{Script, Start};
 pub struct Scenario {
     /// What both ends start with.
     pub start: Start,
-    /// The commands, in order: at most 65,536.
+    /// The commands, in order: at most 65,536, loops expanded.
     pub before: Script,
 }

@@ -1,46 +1,44 @@
 //! Reading a scenario.
 
-ghost use Rattle.std.specs.Prelude.{◌≡◌, ◌^◌, ◌∷◌, [], ℕ, List, Result, IfOk, IfErr};
+ghost use Rattle.std.specs.Prelude.{◌≡◌, ℕ, List, Result, IfOk, IfErr};
 ghost use Rattle.serde_json.specs.View.{view, items_view};
 ghost use Rattle.wl_scene.specs.declared.scenario.Scenario.{Scenario};
+ghost use Rattle.wl_history.specs.Ends.{links_in};
 ghost use Rattle.wl_scene.specs.Answering.{Answers, AnswersOnly, IsUnread};
-ghost use Rattle.wl_scene.specs.Scene.{end_start, start_of, with_commands, scene_of, IsJson, SceneOf};
+ghost use Rattle.wl_scene.specs.Scene.{first_by, end_start, start_of, with_commands, scene_of, IsJson, SceneOf};
 ghost use Rattle.wl_scene.specs.Sound.{IsSound, IsSoundHead};
 
-use crate::commands::commands;
-use crate::fault::SceneFault;
+use crate::account::no_links;
+use crate::fault::{SceneFault, Stop};
+use crate::first::First;
 use crate::head::{Head, command_list, read_head};
+use crate::items::{are_few, items};
 use crate::scenario::Scenario;
 use serde_json::Value;
 use std::alloc::Global;
-use wl_elem::{EndId, LinkId, LinkSet, Memory};
+use wl_elem::{EndId, LinkSet, Memory};
 use wl_history::{EndStart, LinkStart, LinkStarts, Start};
 
-/// The set of one link.
-fn set_of(link: LinkId) -> LinkSet
-    ensures { result ≡ 2 ^ link }
+/// The set of these links.
+fn set_of(links: &[LinkStart]) -> LinkSet
+    ensures { result ≡ links_in 0 links.now }
 {
-    match LinkSet::from_bits(1 << link.get()) {
-        Some(set) => set,
-        None => unreachable!(),
+    let mut set = no_links();
+    'links: for link in links {
+        set = set.with(link.id);
     }
-}
-
-/// The list of one link.
-fn list_of(alloc: Global, link: LinkStart) -> Result<LinkStarts, Memory>
-    ensures { IfOk result (λ links. links ≡ link ∷ []) }
-{
-    let mut links = LinkStarts::new(alloc);
-    links.push(link)?;
-    Ok(links)
+    set
 }
 
 /// What an end starts with.
-fn start_of_end(alloc: Global, end: EndId, head: &Head) -> Result<EndStart, Memory>
+fn start_of_end(alloc: Global, end: EndId, first: First, head: &Head) -> Result<EndStart, Memory>
+    requires { first ≡ first_by end head.now.firsts }
     ensures { IfOk result (λ start. start ≡ end_start end head.now) }
 {
     let key = head.key;
-    let links = list_of(alloc, head.link)?;
+    let accept = set_of(head.links.as_slice());
+    let newest = head.firsts.ap.key.max(head.firsts.sta.key);
+    let links = LinkStarts::from_slice(alloc, head.links.as_slice())?;
     Ok(EndStart {
         end,
         ap: head.ap,
@@ -48,12 +46,12 @@ fn start_of_end(alloc: Global, end: EndId, head: &Head) -> Result<EndStart, Memo
         key,
         links,
         associated: true,
-        window: 1,
-        accept: set_of(head.link.id),
+        window: head.window,
+        accept,
         deny: false,
-        first_key: 0,
-        first_pn: 1,
-        newest: 0,
+        first_key: first.key,
+        first_pn: first.pn,
+        newest,
     })
 }
 
@@ -61,8 +59,8 @@ fn start_of_end(alloc: Global, end: EndId, head: &Head) -> Result<EndStart, Memo
 fn start(alloc: Global, head: &Head) -> Result<Start, Memory>
     ensures { IfOk result (λ start. start ≡ start_of head.now) }
 {
-    let ap = start_of_end(alloc, EndId::Ap, head)?;
-    let sta = start_of_end(alloc, EndId::Sta, head)?;
+    let ap = start_of_end(alloc, EndId::Ap, head.firsts.ap, head)?;
+    let sta = start_of_end(alloc, EndId::Sta, head.firsts.sta, head)?;
     Ok(Start { ap, sta })
 }
 
@@ -71,10 +69,10 @@ fn with_head(alloc: Global, head: &Head, values: &[Value]) -> Result<Scenario, S
     ensures only { AnswersOnly result (with_commands head.now (items_view values.now)) }
     ensures sound { IsSoundHead head.now → IfOk result IsSound }
 {
-    if values.len() > 65_536 {
+    if !are_few(values) {
         return Err(SceneFault::Refused { place: 0 });
     }
-    let before = match commands(alloc, head.link.id, values) {
+    let before = match items(alloc, head.links.as_slice(), values) {
         Ok(before) => before,
         Err(fault) => return Err(fault),
     };
@@ -89,9 +87,10 @@ fn scenario_of(alloc: Global, value: &Value) -> Result<Scenario, SceneFault>
     ensures only { AnswersOnly result (scene_of (view value.now)) }
     ensures sound { IfOk result IsSound }
 {
-    let head = match read_head(value) {
-        Some(head) => head,
-        None => return Err(SceneFault::Refused { place: 0 }),
+    let head = match read_head(alloc, value) {
+        Ok(head) => head,
+        Err(Stop::Wrong) => return Err(SceneFault::Refused { place: 0 }),
+        Err(Stop::NoMemory) => return Err(SceneFault::Memory),
     };
     match command_list(value) {
         Some(values) => with_head(alloc, &head, values),
@@ -118,11 +117,13 @@ fn value_of(alloc: Global, text: &[u8]) -> Result<Value, SceneFault>
 /// Reads a scenario.
 ///
 /// Ok exactly where the text is one: UTF-8 and JSON, an object with the members `version` (1), `ap`
-/// and `sta` (different addresses of 12 hex digits), `key` (32 hex digits), `links` (one object of
-/// `id` below 15, `ap` and `sta`), `window` (1) and, where there are any, `before` (the commands).
-/// Else Refused with the place: 0 where it isn't JSON, where a member outside the commands is wrong
-/// and where there are more than 65,536 commands; else the number of the first wrong command, counted
-/// from 1. `Memory` where there was none; it says nothing of the text.
+/// and `sta` (different addresses of 12 hex digits), `key` (32 hex digits), `links` (1 to 4 objects of
+/// `id`, below 15 and ascending, `ap` and `sta`, no two addresses of an end the same) and, where they
+/// are there, `window` (1 to 256, else 64), `first` (objects of `end`, `key` and `pn`, else key 0 and
+/// packet number 1) and `before` (the commands). Else Refused with the place: 0 where it isn't JSON,
+/// where a member outside the commands is wrong and where the commands count as more than 65,536, loops
+/// expanded; else the number of the first wrong command, counted from 1, a loop before the commands in
+/// its body and each of these once. `Memory` where there was none; it says nothing of the text.
 pub fn read_scenario(alloc: Global, text: &[u8]) -> Result<Scenario, SceneFault>
     ensures read { Answers result (SceneOf text.now) }
     ensures only { (reading : Result Scenario ℕ) → SceneOf text.now reading → AnswersOnly result reading }

@@ -1,4 +1,4 @@
-use Rattle.wl_history.proofs.Keeping.{queue_kept, reserve_kept, given_back, booked_so, puts_down, aired_so, arrived_kept, ack_kept, install_kept, turn_kept}
+use Rattle.wl_history.proofs.Keeping.{queue_kept, reserve_kept, given_back, booked_so, puts_down, framed_kept, arrived_kept, ack_kept, given_kept, moved_kept, install_kept, turn_kept}
 use Rattle.wl_history.proofs.Sound.{started_end}
 use Rattle.wl_history.proofs.laws.an_end_keeps.Goals as goal
 
@@ -17,8 +17,14 @@ returns-clause-book c = booked_so c.laws_below.ensures.numbers c.laws_below.ensu
 pub returns-clause-put_down : goal.returns-clause-put_down
 returns-clause-put_down c = puts_down
 
-pub returns-clause-air : goal.returns-clause-air
-returns-clause-air c = aired_so
+pub returns-clause-frame : goal.returns-clause-frame
+returns-clause-frame c = framed_kept
+
+pub returns-clause-give_up : goal.returns-clause-give_up
+returns-clause-give_up c = given_kept c.laws_below.ensures.windows
+
+pub returns-clause-pass : goal.returns-clause-pass
+returns-clause-pass c = moved_kept
 
 pub returns-clause-hear : goal.returns-clause-hear
 returns-clause-hear c = arrived_kept

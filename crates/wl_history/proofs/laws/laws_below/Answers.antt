@@ -14,4 +14,5 @@ returns-clause-windows c = record {
   booking = c.booked_after_booking.ensures.marks;
   booking_counts = c.booked_after_booking.ensures.counts;
   acking = c.booked_after_ack.ensures;
+  giving_up = c.booked_after_giving_up.ensures;
 }

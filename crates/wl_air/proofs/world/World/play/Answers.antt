@@ -48,3 +48,9 @@ steps-smaller-in_ok-outcome-2 g c = let all = goal.at.steps-smaller-in_ok-outcom
 
 pub steps-preserved-in_ok-outcome-2 : goal.steps-preserved-in_ok-outcome-2
 steps-preserved-in_ok-outcome-2 g c = let all = goal.at.steps-preserved-in_ok-outcome-2 g c in goes_on g all.After-advance
+
+pub steps-smaller-in_ok-outcome-3 : goal.steps-smaller-in_ok-outcome-3
+steps-smaller-in_ok-outcome-3 g c = let all = goal.at.steps-smaller-in_ok-outcome-3 g c in down g all.After-advance
+
+pub steps-preserved-in_ok-outcome-3 : goal.steps-preserved-in_ok-outcome-3
+steps-preserved-in_ok-outcome-3 g c = let all = goal.at.steps-preserved-in_ok-outcome-3 g c in goes_on g all.After-advance

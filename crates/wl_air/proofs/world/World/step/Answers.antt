@@ -4,11 +4,11 @@ use Rattle.wl_history.specs.declared.outcome.Outcome.TheVariants as outcomes
 use Rattle.wl_history.specs.AirState.{AirState, state_of}
 use Rattle.wl_history.specs.Legal.{Fits, Forges, step_limit}
 use Rattle.wl_history.specs.Scripts.{step_of}
-use Rattle.wl_air.specs.Acting.{BodyFits, IsStepFault}
+use Rattle.wl_air.specs.Acting.{CanDo, IsStepFault}
 use Rattle.wl_air.specs.Air.{KnowsPeer}
 use Rattle.wl_air.specs.Playing.{IsWorldFault}
 use Rattle.wl_air.specs.World.{WorldState, Stands, world_of}
-use Rattle.wl_air.proofs.Worlds.{knows_peer, body_fits, both_roomy, unchanged, unmade, noted, settled, Acted, kept, stands, fault}
+use Rattle.wl_air.proofs.Worlds.{knows_peer, can_do, both_roomy, unchanged, unmade, noted, settled, Acted, kept, stands, fault}
 use Rattle.wl_air.proofs.world.World.step.Given.{Over}
 use Rattle.wl_air.proofs.world.World.step.Goals as goal
 use Rattle.wl_air.proofs.world.World.step.Goals.{After-settle}
@@ -36,7 +36,7 @@ module _ (g : Over) (c : After-settle g) where
 
 pub invariant_of-self-in-Ok : goal.invariant_of-self-in-Ok
 invariant_of-self-in-Ok g c =
-    kept c.stored_near.ensures (g.Z.Sealer.text c.args.z.now) c.self.inside.journal.start c.self.inside.air c.act.new.self c.self.inside.journal.steps c.settle.new.self c.args.thread c.args.command c.in-Ok.outcome (room g c) (later g c) (acted g c) c.self.invariant
+    kept (record { stored = c.stored_near.ensures; asked = c.requested_near.ensures }) (g.Z.Sealer.text c.args.z.now) c.self.inside.journal.start c.self.inside.air c.act.new.self c.self.inside.journal.steps c.settle.new.self c.args.thread c.args.command c.in-Ok.outcome (room g c) (later g c) (acted g c) c.self.invariant
 
 pub returns-in-Ok-clause-stands : goal.returns-in-Ok-clause-stands
 returns-in-Ok-clause-stands g c h = goes_on g c h
@@ -75,8 +75,8 @@ returns-in-Err-clause-unchanged g c =
 
 pub act-requires-clause-fits : goal.act-requires-clause-fits
 act-requires-clause-fits g c =
-    subst BodyFits (sym (noted c.args.thread c.args.command c.latest-command.result.now outcomes.Nothing c.self.inside.journal.steps c.push.new.self c.in_ok-push.ensures.ok c.latest-command.ensures))
-    (body_fits c.self.inside.journal.start c.args.command (subst (λ (w : WorldState). Fits w.start c.args.command) (sym c.self.view_is) c.requires.fits))
+    subst (λ (x : Command). CanDo x c.self.inside.air) (sym (noted c.args.thread c.args.command c.latest-command.result.now outcomes.Nothing c.self.inside.journal.steps c.push.new.self c.in_ok-push.ensures.ok c.latest-command.ensures))
+    (can_do c.self.inside.journal.start c.self.inside.air (length c.self.inside.journal.steps) c.args.command c.self.invariant (subst (λ (w : WorldState). Fits w.start c.args.command) (sym c.self.view_is) c.requires.fits))
 
 pub act-requires-clause-roomy : goal.act-requires-clause-roomy
 act-requires-clause-roomy g c = both_roomy c.self.inside.journal.start c.self.inside.air c.self.inside.journal.steps c.self.invariant (subst (λ (w : WorldState). length w.steps < step_limit) (sym c.self.view_is) c.requires.room)

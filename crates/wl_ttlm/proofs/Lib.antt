@@ -1,4 +1,5 @@
 pub mod Maps
+pub mod Mappings
 pub mod Fields
 pub mod Once
 pub mod Writing

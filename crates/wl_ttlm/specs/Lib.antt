@@ -1,2 +1,3 @@
 pub mod Ttlm
 pub mod Reading
+pub mod Mapping

@@ -1,0 +1,5 @@
+pub mod Tables
+pub mod Sets
+pub mod Requests
+pub mod Replies
+pub mod Grants

@@ -7,6 +7,7 @@
 #![tactic(auto)]
 
 mod mapping;
+mod message;
 mod setup;
 mod words;
 
@@ -23,6 +24,10 @@ fn answer(alloc: Global, line: &str) -> Option<String> {
         ["default_mapping", words @ ..] => mapping::default_mapping(alloc, words),
         ["mapping", words @ ..] => mapping::mapping(alloc, words),
         ["map_end", words @ ..] => mapping::map_end(alloc, words),
+        ["map_ask_body", words @ ..] => message::map_ask_body(alloc, words),
+        ["map_reply_body", words @ ..] => message::map_reply_body(alloc, words),
+        ["map_teardown_body"] => message::map_teardown_body(alloc),
+        ["message", words @ ..] => message::message(alloc, words),
         _ => None,
     }
 }

@@ -38,8 +38,23 @@ fn bitmaps_of(alloc: Global, word: &str) -> Option<[Option<u16>; 8]> {
     Some(maps)
 }
 
+/// Eight bitmaps as they are written in a line.
+pub fn bitmaps_text(alloc: Global, maps: &[Option<u16>; 8]) -> Option<String> {
+    let mut out = text(alloc, "")?;
+    for (tid, map) in maps.iter().enumerate() {
+        if tid > 0 {
+            out.push_str(",").ok()?;
+        }
+        match map {
+            Some(bits) => write!(out, "{bits}").ok()?,
+            None => out.push_str("-").ok()?,
+        }
+    }
+    Some(out)
+}
+
 /// What a direction is to become: `default`, eight bitmaps, or `-` where it isn't named.
-fn change_of(alloc: Global, word: &str) -> Option<Option<Change>> {
+pub fn change_of(alloc: Global, word: &str) -> Option<Option<Change>> {
     match word {
         "-" => Some(None),
         "default" => Some(Some(Change::Default)),

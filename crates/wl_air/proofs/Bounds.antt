@@ -27,9 +27,19 @@ use Rattle.wl_history.specs.declared.outcome.Outcome.TheVariants as outcomes
 use Rattle.wl_history.specs.declared.start.EndStart.{EndStart}
 use Rattle.wl_history.specs.declared.start.Start.{Start}
 use Rattle.wl_history.specs.Ends.{IsSetup, IsStart, start_of, receive_size}
+use Rattle.wl_elem.specs.declared.lane.Lane.TheVariants as lanes
+use Rattle.wl_window.specs.Reordering.{MovesNear}
+use Rattle.wl_message.specs.declared.changes.MapEntry.{MapEntry}
+use Rattle.wl_message.specs.declared.message.Message.{Message}
+use Rattle.wl_message.specs.declared.message.Message.TheVariants as messages
+use Rattle.wl_message.specs.Message.{message_octets, message_of}
+use Rattle.wl_history.specs.declared.command.Machine.{Machine}
+use Rattle.wl_history.specs.declared.command.Machine.TheVariants as machines
+use Rattle.wl_history.specs.declared.setup.Setup.{Setup}
+use Rattle.wl_history.specs.Machines.{Made, acted, installed, switched, map_asked, map_torn, given}
 use Rattle.wl_history.specs.Hands.{hand_of}
 use Rattle.wl_history.specs.Answers.{aired_octets, acks_made}
-use Rattle.wl_history.specs.EndState.{LaneState, EndState, lane_at, no_lane, no_lanes, no_management, started, frames_on, with_lane, with_frame, put_down, arrival_of, after_queue, after_reserve, after_book, after_put, after_arrived, after_heard, after_again, after_acked, after_taken, after_given, after_bar_out, after_moved, after_request, after_install, after_turn, acked_by, given_by, moved_by}
+use Rattle.wl_history.specs.EndState.{LaneState, EndState, lane_at, no_lane, no_lanes, no_management, started, frames_on, with_lane, with_frame, put_down, arrival_of, after_queue, after_reserve, after_book, after_put, after_arrived, after_heard, after_again, after_acked, after_taken, after_given, after_bar_out, after_moved, after_request, after_turn, acked_by, given_by, moved_by, management, with_message, with_made, with_moved, after_told}
 use Rattle.wl_history.specs.AirState.{AirState, end_of, acks_of, with_end, with_acks, with_bars, ack_named, bar_named, begun, after}
 use Rattle.wl_end.specs.Parts.{frame_count}
 use Rattle.wl_history.specs.Legal.{step_limit}
@@ -137,10 +147,9 @@ module _ (s : EndState) where
   put_grown thread link octets (outcomes.Put lane n retry) = down_grown thread (hand_of s.hands thread) (with_frame link octets lane n s) (frame_grown link octets lane n)
   put_grown thread link octets other = down_grown thread (hand_of s.hands thread) s (still_grown s)
 
-  arrived_grown : (lane : Lane) (come : Arrived Arrival) → ArrivedNear (lane_at s (lane_index lane)).window come → Grown s (after_arrived lane come s)
-  arrived_grown lane Old near = still_grown s
-  arrived_grown lane Doubled near = still_grown s
-  arrived_grown lane (Stored moved) near = record {
+  -- a window that moved, and the queue that stays
+  window_grown : (lane : Lane) (moved : Moved Arrival) → MovesNear (lane_at s (lane_index lane)).window moved → Grown s (with_moved lane moved s)
+  window_grown lane moved near = record {
     start_same = refl;
     sized = λ h. h;
     lanes = λ l. one_lane s.lanes (lane_index lane) l _ (record { queue = omega arith; window = near.2; near = λ h. near.0 });
@@ -148,21 +157,27 @@ module _ (s : EndState) where
     aired = omega arith;
   }
 
+  -- what a machine makes: one body more at most
+  message_grown : (setup : Setup) (message : Option Message) → (IsSetup s.setup → IsSetup setup) → Grown s (with_message message (record s { setup = setup }))
+  message_grown setup None sized = record { start_same = refl; sized = sized; lanes = λ l. lane_still (lane_at s l); booked = omega arith; aired = omega arith }
+  message_grown setup (Some message) sized = record {
+    start_same = refl;
+    sized = sized;
+    lanes = (queue_grown management (message_octets message)).lanes;
+    booked = omega arith;
+    aired = omega arith;
+  }
+
+  made_grown : (made : Made) → (IsSetup s.setup → IsSetup made.setup) → Grown s (with_made made s)
+  made_grown made sized = message_grown made.setup made.message sized
+
   hear_by : (b : Bool) (t : EndState) → Grown s t → Grown s (if b then t else s)
   hear_by true t g = g
   hear_by false t g = still_grown s
 
-  heard_grown : StoredNear → (p : EndState) (o : Outcome) → IsSetup s.setup → ((l : ℕ) → IsNear (lane_at s l).window) → Grown s (after_heard p o s)
-  heard_grown law p (outcomes.Stored lane number n up) some near =
-      let size = receive_size s.setup (lane_index lane) in
-      hear_by (is_above (last_of s.last lane) n.key n.pn) _
-      (arrived_grown lane (arrived (lane_at s (lane_index lane)).window number size (arrival_of p lane n))
-      (arrived_near law (lane_at s (lane_index lane)).window number size (arrival_of p lane n) (size_by (lane_index lane == lane_index Management) s.setup.window some.some_window) (near (lane_index lane))))
-  heard_grown law p other some near = still_grown s
-
   moved_grown : (lane : Lane) (moved : Option (Moved Arrival)) → AskedNear (lane_at s (lane_index lane)).window moved → Grown s (after_moved lane moved s)
   moved_grown lane None near = still_grown s
-  moved_grown lane (Some moved) near = arrived_grown lane (Stored moved) near
+  moved_grown lane (Some moved) near = window_grown lane moved near
 
   request_grown : RequestedNear → (named : Option Bar) → ((l : ℕ) → IsNear (lane_at s l).window) → Grown s (after_request named s)
   request_grown law None near = still_grown s
@@ -184,14 +199,104 @@ module _ (s : EndState) where
   taken_grown None = still_grown s
   taken_grown (Some ack) = acked_grown ack (acked_by ack s)
 
-  -- a key that is installed, and one that is turned to
-  install_grown : (o : Outcome) → Grown s (after_install o s)
-  install_grown (outcomes.Installed key) = record { start_same = refl; sized = λ h. record { some_window = h.some_window; window_limit = h.window_limit }; lanes = λ l. lane_still (lane_at s l); booked = omega arith; aired = omega arith }
-  install_grown other = still_grown s
-
+  -- a key that is turned to
   turn_grown : (o : Outcome) → Grown s (after_turn o s)
   turn_grown (outcomes.Turned key) = record { start_same = refl; sized = λ h. h; lanes = λ l. lane_still (lane_at s l); booked = omega arith; aired = omega arith }
   turn_grown other = still_grown s
+
+-- ---- what is released acts
+
+-- one change after another, of which the first leaves the queues and the second the windows
+both_grown : (s t u : EndState) → Grown s t → Grown t u → ((l : ℕ) → length (lane_at t l).queue ≡ length (lane_at s l).queue) → ((l : ℕ) → (lane_at u l).window ≡ (lane_at t l).window) → t.booked ≡ s.booked → u.booked ≡ t.booked → t.frames ≡ s.frames → u.frames ≡ t.frames → Grown s u
+both_grown s t u g h queues windows booked booked' frames frames' = record {
+  start_same = h.start_same ∙ g.start_same;
+  sized = λ is. h.sized (g.sized is);
+  lanes = λ l. record {
+    queue = omega (arith, (h.lanes l).queue, queues l);
+    window = omega (arith, (g.lanes l).window, ap (λ (w : Window Arrival). w.start) (windows l));
+    near = λ is. subst IsNear (sym (windows l)) ((g.lanes l).near is);
+  };
+  booked = omega (arith, ap booking_count booked, ap booking_count booked');
+  aired = omega (arith, ap frame_count frames, ap frame_count frames');
+}
+
+same_queue : (lanes : List LaneState) (place l : ℕ) (new : LaneState) → new.queue ≡ (get_or lanes place no_lane).queue → length (get_or (set lanes place new) l no_lane).queue ≡ length (get_or lanes l no_lane).queue
+same_queue [] place l new same = refl
+same_queue (x ∷ xs) zero zero new same = ap (λ (q : List (List ℕ)). length q) same
+same_queue (x ∷ xs) zero (suc l) new same = refl
+same_queue (x ∷ xs) (suc place) zero new same = refl
+same_queue (x ∷ xs) (suc place) (suc l) new same = same_queue xs place l new same
+
+same_window : (lanes : List LaneState) (place l : ℕ) (new : LaneState) → new.window ≡ (get_or lanes place no_lane).window → (get_or (set lanes place new) l no_lane).window ≡ (get_or lanes l no_lane).window
+same_window [] place l new same = refl
+same_window (x ∷ xs) zero zero new same = same
+same_window (x ∷ xs) zero (suc l) new same = refl
+same_window (x ∷ xs) (suc place) zero new same = refl
+same_window (x ∷ xs) (suc place) (suc l) new same = same_window xs place l new same
+
+message_windows : (s : EndState) (setup : Setup) (message : Option Message) (l : ℕ) → (lane_at (with_message message (record s { setup = setup })) l).window ≡ (lane_at s l).window
+message_windows s setup None l = refl
+message_windows s setup (Some message) l = same_window s.lanes management l _ refl
+
+message_books : (s : EndState) (setup : Setup) (message : Option Message) → (with_message message (record s { setup = setup })).booked ≡ s.booked
+message_books s setup None = refl
+message_books s setup (Some message) = refl
+
+message_frames : (s : EndState) (setup : Setup) (message : Option Message) → (with_message message (record s { setup = setup })).frames ≡ s.frames
+message_frames s setup None = refl
+message_frames s setup (Some message) = refl
+
+-- ---- the sizes of windows stay, whatever a machine makes
+
+sized_same : (old new : Setup) → new.window ≡ old.window → IsSetup old → IsSetup new
+sized_same old new same is = record { some_window = omega (arith, same, is.some_window); window_limit = omega (arith, same, is.window_limit) }
+
+installed_window : (o : Outcome) (setup : Setup) → (installed o setup).setup.window ≡ setup.window
+installed_window (outcomes.Installed key) setup = refl
+installed_window other setup = refl
+
+asked_window : (entries : List MapEntry) (o : Outcome) (setup : Setup) → (map_asked entries o setup).setup.window ≡ setup.window
+asked_window entries (outcomes.Asked token) setup = refl
+asked_window entries other setup = refl
+
+torn_window : (o : Outcome) (setup : Setup) → (map_torn o setup).setup.window ≡ setup.window
+torn_window outcomes.Sent setup = refl
+torn_window other setup = refl
+
+given_window : (what : Machine) (o : Outcome) (setup : Setup) → (given what o setup).setup.window ≡ setup.window
+given_window machines.Map (outcomes.Given token) setup = refl
+given_window machines.Map other setup = refl
+
+acted_window : (message : Message) (setup : Setup) → (acted message setup).setup.window ≡ setup.window
+acted_window (messages.MapAsk token changes) setup = refl
+acted_window (messages.MapReply token status) setup = refl
+acted_window messages.MapTeardown setup = refl
+
+made_same : (s : EndState) (made : Made) → made.setup.window ≡ s.setup.window → Grown s (with_made made s)
+made_same s made same = made_grown s made (sized_same s.setup made.setup same)
+
+module _ (s : EndState) where
+  told_grown : (at : Lane) (body : List ℕ) (lane : Lane) (moved : Moved Arrival) → MovesNear (lane_at s (lane_index lane)).window moved → Grown s (after_told at body (with_moved lane moved s))
+  told_grown (lanes.Tid tid) body lane moved near = window_grown s lane moved near
+  told_grown lanes.Management body lane moved near =
+      let t = with_moved lane moved s in
+      let made = acted (message_of body) t.setup in
+      both_grown s t (with_made made t) (window_grown s lane moved near) (made_same t made (acted_window (message_of body) t.setup))
+      (λ l. same_queue s.lanes (lane_index lane) l _ refl) (message_windows t made.setup made.message) refl (message_books t made.setup made.message) refl (message_frames t made.setup made.message)
+
+  arrived_grown : (lane : Lane) (body : List ℕ) (come : Arrived Arrival) → ArrivedNear (lane_at s (lane_index lane)).window come → Grown s (after_arrived lane body come s)
+  arrived_grown lane body Old near = still_grown s
+  arrived_grown lane body Doubled near = still_grown s
+  arrived_grown lane body (Stored moved) near = told_grown lane body lane moved near
+
+  heard_grown : StoredNear → (p : EndState) (o : Outcome) → IsSetup s.setup → ((l : ℕ) → IsNear (lane_at s l).window) → Grown s (after_heard p o s)
+  heard_grown law p (outcomes.Stored lane number n up) some near =
+      let size = receive_size s.setup (lane_index lane) in
+      let item = arrival_of p lane n in
+      hear_by s (is_above (last_of s.last lane) n.key n.pn) _
+      (arrived_grown lane item.body (arrived (lane_at s (lane_index lane)).window number size item)
+      (arrived_near law (lane_at s (lane_index lane)).window number size item (size_by (lane_index lane == lane_index Management) s.setup.window some.some_window) (near (lane_index lane))))
+  heard_grown law p other some near = still_grown s
 
 -- ---- both
 
@@ -228,8 +333,13 @@ module _ (a : AirState) where
   after_grown law text thread (commands.BarIn end nth) o some near = at_end end _ (request_grown (end_of a end) law.asked (bar_named a end nth) (near end))
   after_grown law text thread (commands.AckOut end lane) o some near = at_acks end (acks_made lane o (acks_of a end))
   after_grown law text thread (commands.AckIn end nth) o some near = at_end end _ (taken_grown (end_of a end) (ack_named a end nth))
-  after_grown law text thread (commands.Install end) o some near = at_end end _ (install_grown (end_of a end) o)
+  after_grown law text thread (commands.Install end) o some near = at_end end _ (made_same (end_of a end) (installed o (end_of a end).setup) (installed_window o (end_of a end).setup))
   after_grown law text thread (commands.Turn end) o some near = at_end end _ (turn_grown (end_of a end) o)
+  after_grown law text thread (commands.Inject end link octets) o some near = at_end end _ (heard_grown (end_of a end) law.stored (end_of a (peer_of end)) o (some end) (near end))
+  after_grown law text thread (commands.Power end link on) o some near = at_end end _ (made_same (end_of a end) (switched link on (end_of a end).setup) refl)
+  after_grown law text thread (commands.MapAsk end entries) o some near = at_end end _ (made_same (end_of a end) (map_asked entries o (end_of a end).setup) (asked_window entries o (end_of a end).setup))
+  after_grown law text thread (commands.MapTeardown end) o some near = at_end end _ (made_same (end_of a end) (map_torn o (end_of a end).setup) (torn_window o (end_of a end).setup))
+  after_grown law text thread (commands.GiveUp end what) o some near = at_end end _ (made_same (end_of a end) (given what o (end_of a end).setup) (given_window what o (end_of a end).setup))
 
 -- ---- a world
 

@@ -29,8 +29,10 @@ use Rattle.wl_history.specs.declared.start.EndStart.{EndStart}
 use Rattle.wl_history.specs.Ends.{mld_of, receive_size}
 use Rattle.wl_history.specs.Words.{body_at}
 use Rattle.wl_history.specs.Hearing.{Closed, IsClosed, Judged, Answered, ToOpen, judged, kind_of, opened_under, sealed_under, text_of, is_of, booking_of}
-use Rattle.wl_history.specs.EndState.{EndState, IsEnd, lane_at, arrival_of, hear_arrived, hear_answer, after_arrived, after_hear, after_heard}
+use Rattle.wl_history.specs.EndState.{EndState, IsEnd, management, lane_at, arrival_of, hear_arrived, hear_answer, after_arrived, after_hear, after_heard}
 use Rattle.wl_history.specs.Legal.{IsBodyIn, IsUnbooked, judged_at, judged_answer, opened_answer, HeardAs, HeardIf, ForgedAs, ForgedIf}
+use Rattle.wl_message.specs.Message.{IsMade as IsBody}
+use Rattle.wl_history.specs.Machines.{IsBodyOn}
 use Rattle.wl_history.specs.Plain.{IsPlain}
 use Rattle.wl_end.specs.declared.peek.Peek.{Peek}
 use Rattle.wl_end.specs.declared.peek.Peek.TheVariants as peeks
@@ -59,9 +61,9 @@ module _ (s p : EndState) (lane : Lane) (number : ℕ) (n : Numbers) where
   abbrev item : Arrival
   item = arrival_of p lane n
 
-  leaves : (b : Bool) → is_above (last_of s.last lane) n.key n.pn ≡ b → (come : Arrived Arrival) → arrived (lane_at s (lane_index lane)).window number size item ≡ come → (if b then after_arrived lane come s else s) ≡ after_hear lane number size item s
+  leaves : (b : Bool) → is_above (last_of s.last lane) n.key n.pn ≡ b → (come : Arrived Arrival) → arrived (lane_at s (lane_index lane)).window number size item ≡ come → (if b then after_arrived lane item.body come s else s) ≡ after_hear lane number size item s
   leaves b above come is =
-      ap (λ (c : Arrived Arrival). if b then after_arrived lane c s else s) (sym is) ∙ ap (λ (x : Bool). if x then after_arrived lane (arrived (lane_at s (lane_index lane)).window number size item) s else s) (sym above)
+      ap (λ (c : Arrived Arrival). if b then after_arrived lane item.body c s else s) (sym is) ∙ ap (λ (x : Bool). if x then after_arrived lane item.body (arrived (lane_at s (lane_index lane)).window number size item) s else s) (sym above)
 
   by_come : (b : Bool) → is_above (last_of s.last lane) n.key n.pn ≡ b → (come : Arrived Arrival) → arrived (lane_at s (lane_index lane)).window number size item ≡ come
       → after_heard p (if b then hear_arrived lane number n (last_of s.last lane) come else outcomes.Replay) s ≡ after_hear lane number size item s
@@ -81,6 +83,13 @@ pub seen_leaves : (s p : EndState) (peek : Peek) (o : Outcome) (s' : EndState) �
 seen_leaves s p (peeks.Answered answer) o s' fits (same, still) = still ∙ sym (ap (λ (x : Outcome). after_heard p x s) same ∙ plain_leaves p s answer fits)
 seen_leaves s p (peeks.Opened four lane number pn) o s' fits (pos, b, answer, is) =
     is ∙ sym (ap (λ (x : Outcome). after_heard p x s) answer ∙ heard_leaves s p lane number (numbers_of four pn pos))
+
+-- ---- bodies of management
+
+-- a booking of management is of a body that an end makes
+pub body_made : (p : EndState) → IsEnd p → (lane : Lane) (pn : ℕ) (four : Opened) (pos : ℕ) → IsBookingOf p lane pn four pos → IsBodyOn lane four.body
+body_made p is (lanes.Tid tid) pn four pos b = tt
+body_made p is lanes.Management pn four pos b = subst IsBody (ap (λ (o : Opened). o.body) b.sealed) (is.managed.made pos (is.sender.queued management (numbers_of four pn pos) b.booked))
 
 -- ---- bookings and their texts
 

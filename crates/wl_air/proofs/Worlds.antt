@@ -75,14 +75,15 @@ same_links : (start : Start) → IsStart start → (e : EndId) → (start_of sta
 same_links start is Ap = is.links_same
 same_links start is Sta = sym is.links_same
 
-pub can_do : (start : Start) (a : AirState) (steps : ℕ) (command : Command) → IsWorld start a steps → Fits start command → CanDo command a
-can_do start a steps (commands.Queue end tid body) w fits = (fits.1, fits.2)
-can_do start a steps (commands.Alter end link nth number) w fits = fits.1
-can_do start a steps (commands.Forge end link lane key pn number body) w fits = (
+pub can_do : (start : Start) (a : AirState) (steps : ℕ) (command : Command) → IsWorld start a steps → Fits start command → InRanges command → CanDo command a
+can_do start a steps (commands.Queue end tid body) w fits ranges = (fits.1, fits.2)
+can_do start a steps (commands.Alter end link nth number) w fits ranges = fits.1
+can_do start a steps (commands.Forge end link lane key pn number body) w fits ranges = (
   ap (λ (s : EndStart). is_link s link) (w.starts (peer_of end)) ∙ ap (λ (links : List LinkStart). is_some (link_at link links)) (same_links start w.is_start end) ∙ fits.0,
   fits.2,
 )
-can_do start a steps other w fits = tt
+can_do start a steps (commands.MapAsk end entries) w fits ranges = ranges
+can_do start a steps other w fits ranges = tt
 
 -- the command of the latest step is the one that was noted
 pub noted : (thread : ℕ) (command seen : Command) (o : Outcome) (before pushed : List Step) → pushed ≡ step_of thread command o ∷ before → ((s : Step) (b : List Step) → pushed ≡ s ∷ b → seen ≡ s.command) → seen ≡ command

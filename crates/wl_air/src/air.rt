@@ -5,9 +5,10 @@ ghost use Rattle.std.specs.Result.{IsErr};
 ghost use Rattle.wl_elem.specs.Element.{msdu_limit};
 ghost use Rattle.wl_elem.specs.Lanes.{lane_index, peer_of};
 ghost use Rattle.wl_history.specs.declared.opened.Opened.{Opened};
-ghost use Rattle.wl_history.specs.declared.outcome.Outcome.TheVariants.{Queued as IsQueued, Acked as IsAcked};
+ghost use Rattle.wl_history.specs.declared.outcome.Outcome.TheVariants.{Queued as IsQueued, Acked as IsAcked, Set as IsSet};
 ghost use Rattle.wl_history.specs.Answers.{reserve_answer, book_answer, put_of, aired_octets, booked_at, again_of, octets_again, ack_out_answer, ack_answer, acks_made, given_answer, bar_out_answer, bar_answer, bars_made, install_answer, turn_answer};
-ghost use Rattle.wl_history.specs.EndState.{lane_at, after_queue, after_reserve, after_book, after_put, after_again, after_taken, after_heard, after_bar_out, after_request, after_install, after_turn};
+ghost use Rattle.wl_history.specs.EndState.{lane_at, with_made, after_queue, after_reserve, after_book, after_put, after_again, after_taken, after_heard, after_bar_out, after_request, after_install, after_turn};
+ghost use Rattle.wl_history.specs.Machines.{switched};
 ghost use Rattle.wl_history.specs.Ends.{send_size, is_link};
 ghost use Rattle.wl_history.specs.Hearing.{with_number, forged};
 ghost use Rattle.wl_history.specs.Hands.{hand_of};
@@ -191,6 +192,16 @@ fn turn(end: &mut End) -> Outcome
         Ok(key) => Outcome::Turned { key },
         Err(_) => Outcome::KeysSpent,
     }
+}
+
+/// Lets an end switch a radio.
+fn power(end: &mut End, link: LinkId, on: bool) -> Outcome
+    ensures answer { result ≡ IsSet }
+    ensures plain { IsPlain result }
+    ensures after { end.new ≡ with_made (switched link on end.old.setup) end.old }
+{
+    end.power(link, on);
+    Outcome::Set
 }
 
 /// The same answer twice: for the caller and for the journal.
@@ -450,8 +461,9 @@ impl Air {
     /// that knows its peer's addresses; every other answer of any two ends.
     ///
     /// Conditions: a body to be queued or sealed has 1 to 2,304 octets, a sequence number is below 4,096, a
-    /// packet number 1 to 2^48 - 1, and a frame in the peer's name goes over one of its links; no queue has
-    /// 2^32 - 8,192 bodies or more, and no window starts there or higher.
+    /// packet number 1 to 2^48 - 1, a frame in the peer's name goes over one of its links, and entries have
+    /// the bitmaps of eight TIDs; no queue has 2^32 - 8,192 bodies or more, and no window starts there or
+    /// higher.
     pub fn act<Z: Sealer>(
         &mut self,
         alloc: Global,
@@ -502,6 +514,9 @@ impl Air {
                 };
                 self.forge(alloc, *end, *link, *lane, numbers, body, z)
             }
+            Command::Inject { end, link, octets } => {
+                self.hear(alloc, *end, *link, Some(octets.as_slice()), z)
+            }
             Command::AckOut { end, lane } => match self.ack_out(alloc, *end, lane) {
                 Ok(both) => Ok(both),
                 Err(_) => Err(StepFault::Memory),
@@ -514,6 +529,12 @@ impl Air {
             },
             Command::Install { end } => Ok(twice(install(self.end_mut(*end)))),
             Command::Turn { end } => Ok(twice(turn(self.end_mut(*end)))),
+            Command::Power { end, link, on } => { Ok(twice(power(self.end_mut(*end), *link, *on))) }
+            Command::MapAsk { end, entries } => {
+                both(self.end_mut(*end).map_ask(entries.as_slice()))
+            }
+            Command::MapTeardown { end } => both(self.end_mut(*end).map_teardown()),
+            Command::GiveUp { end, what } => Ok(twice(self.end_mut(*end).give_up(*what))),
         }
     }
 }

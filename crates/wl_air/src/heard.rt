@@ -7,6 +7,7 @@ ghost use Rattle.wl_history.specs.EndState.{lane_at, frames_on, hear_answer, aft
 ghost use Rattle.wl_history.specs.declared.opened.Opened.{Opened};
 ghost use Rattle.wl_history.specs.Legal.{HeardIf, ForgedIf};
 ghost use Rattle.wl_history.specs.Answers.{bar_answer};
+ghost use Rattle.wl_history.specs.Machines.{IsBodyOn};
 ghost use Rattle.wl_history.specs.Hearing.{with_number};
 ghost use Rattle.wl_history.specs.Words.{nth_of};
 ghost use Rattle.wl_end.specs.declared.peek.Peek.{Peek};
@@ -76,7 +77,8 @@ fn take(
     numbers: &Numbers,
     body: Bytes,
 ) -> Result<(Outcome, Outcome), Memory>
-    requires { (lane_at own.old (lane_index lane.now)).window.start < 2 ^ 32 - 8192 }
+    requires roomy { IsRoomy own.old }
+    requires made { IsBodyOn lane.now body }
     ensures answer { IfOk result (λ o. o.0 ≡ hear_answer lane.now number (receive_size own.old.setup (lane_index lane.now)) (record { numbers = numbers.now; body = body }) own.old) }
     ensures again { IfOk result (λ o. o.1 ≡ o.0) }
     ensures after { OnOk result (own.new ≡ after_hear lane.now number (receive_size own.old.setup (lane_index lane.now)) (record { numbers = numbers.now; body = body }) own.old) }

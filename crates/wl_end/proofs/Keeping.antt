@@ -1,25 +1,36 @@
 -- What a granted reserve, a hearing, an acknowledgement and a request leave of an end.
-use Rattle.std.proofs.Common.{◌≡◌, ◌≢◌, ℕ, ◌+◌, ◌-◌, Bool, true, false, eq-eqb, List, OnOk, OnErr, Option, Some, None, Result, Ok, Err, refl, sym, ap, subst}
-use Rattle.std.specs.Prelude.{◌==◌, nat_le, if◌then◌else◌}
+use Rattle.std.proofs.Common.{◌≡◌, ◌≢◌, ◌<◌, ◌∙◌, ℕ, ◌+◌, ◌-◌, ◌++◌, ◌∷◌, [], length, get_or, set, Bool, true, false, eq-eqb, List, arith, OnOk, OnErr, Option, Some, None, Result, Ok, Err, refl, sym, ap, subst}
+use Rattle.std.specs.Prelude.{◌==◌, nat_le, option_map, IfSome, if◌then◌else◌}
 use Rattle.std.proofs.lemmas.Bool.{both_ways}
-use Rattle.std.proofs.lemmas.List.{set-get_or}
+use Rattle.std.proofs.lemmas.List.{set-get_or, get_or-set_same}
 use Rattle.wl_elem.specs.declared.lane.Lane.{Lane}
 use Rattle.wl_elem.specs.Lanes.{lane_index}
 use Rattle.wl_replay.specs.declared.replay.Pair.{Pair}
-use Rattle.wl_replay.specs.Replay.{last_of}
-use Rattle.wl_window.specs.Reordering.{Arrived, Moved, Old, Doubled, Stored}
+use Rattle.wl_replay.specs.Replay.{is_above, last_of}
+use Rattle.wl_window.specs.Reordering.{Arrived, Moved, Old, Doubled, Stored, arrived}
 use Rattle.wl_window.specs.declared.refusal.MoveRefusal.{MoveRefusal}
 use Rattle.wl_window.specs.declared.refusal.OriginRefusal.{OriginRefusal}
 use Rattle.wl_window.specs.declared.refusal.OriginRefusal.TheVariants.{NothingQueued, WindowFull}
 use Rattle.wl_window.specs.Originating.{Sending, Acked, reserved, sending_after, granted_answer, sending_acked}
 use Rattle.wl_history.specs.declared.ack.Ack.{Ack}
+use Rattle.wl_history.specs.declared.ack.Bar.{Bar}
+use Rattle.wl_history.specs.declared.setup.Setup.{Setup}
+use Rattle.wl_history.specs.Ends.{receive_size}
+use Rattle.wl_history.specs.Machines.{Made, acted}
+use Rattle.wl_message.specs.declared.message.Message.{Message}
+use Rattle.wl_message.specs.declared.message.Message.TheVariants as messages
+use Rattle.wl_message.specs.Message.{message_octets, message_of}
+use Rattle.wl_elem.specs.declared.lane.Lane.TheVariants as lanes
+use Rattle.wl_end.specs.Reacting.{maps_after, reply_to, maps_told, reply_told}
+use Rattle.wl_end.proofs.Releasing.{set_again}
 use Rattle.wl_history.specs.declared.arrival.Arrival.{Arrival}
 use Rattle.wl_number.specs.NumberObject.{NumberObject, turned}
 use Rattle.wl_history.specs.declared.outcome.Outcome.{Outcome}
 use Rattle.wl_history.specs.declared.outcome.Outcome.TheVariants as outcomes
-use Rattle.wl_history.specs.EndState.{EndState, LaneState, IsEnd, lane_at, no_lane, after_arrived, after_acked, after_given, after_moved, after_turn}
+use Rattle.wl_history.specs.EndState.{EndState, LaneState, IsEnd, lane_at, no_lane, management, with_message, with_made, with_moved, moved_by, after_told, after_arrived, after_hear, after_acked, after_given, after_moved, after_turn}
 use Rattle.wl_end.specs.Parts.{with_lane_of}
-use Rattle.wl_end.specs.Listening.{lane_after, pairs_after, lane_passed, pairs_passed}
+use Rattle.wl_end.specs.declared.heard.Heard.TheVariants as heard
+use Rattle.wl_end.specs.Listening.{heard_of, lane_moved, lane_heard, replied, pairs_moved, pairs_after, lane_passed, pairs_passed}
 
 -- ---- reserving
 
@@ -47,13 +58,80 @@ granted_is s queued size ok =
 abbrev pub heard_at : EndState → List LaneState → List (Option Pair) → EndState
 heard_at s lanes last = record s { lanes = lanes; last = last }
 
-abbrev pub HearKeeps : Type 0
-HearKeeps = (s : EndState) (lane : Lane) (come : Arrived Arrival) → IsEnd s → IsEnd (after_arrived lane come s)
+-- what comes of a body that was heard: a lane, the last pairs and the setup
+abbrev pub setup_heard : Lane → List ℕ → Arrived Arrival → Setup → Setup
+setup_heard lane body (Stored moved) setup = record setup { maps = maps_told lane body setup.maps }
+setup_heard lane body other setup = setup
 
-heard_by : HearKeeps → (s : EndState) (lane : Lane) (come : Arrived Arrival) → IsEnd s → IsEnd (heard_at s (with_lane_of s.lanes lane (lane_after (last_of s.last lane) come (lane_at s (lane_index lane)))) (pairs_after lane come s.last))
-heard_by law s lane Old is = subst (λ (l : List LaneState). IsEnd (heard_at s l s.last)) (sym (set-get_or s.lanes (lane_index lane) no_lane)) is
-heard_by law s lane Doubled is = subst (λ (l : List LaneState). IsEnd (heard_at s l s.last)) (sym (set-get_or s.lanes (lane_index lane) no_lane)) is
-heard_by law s lane (Stored moved) is = law s lane (Stored moved) is
+abbrev pub heard_end : EndState → Lane → List ℕ → Arrived Arrival → EndState
+heard_end s lane body come = record s {
+  lanes = with_lane_of s.lanes lane (lane_heard (last_of s.last lane) (reply_told lane body s.setup.maps) come (lane_at s (lane_index lane)));
+  last = pairs_after lane come s.last;
+  setup = setup_heard lane body come s.setup;
+}
+
+-- what a machine makes of a message, in the words of the history
+acted_is : (message : Message) (setup : Setup) → acted message setup ≡ (let made : Made = record { setup = record setup { maps = maps_after message setup.maps }; message = reply_to message setup.maps } in made)
+acted_is (messages.MapAsk token changes) setup = refl
+acted_is (messages.MapReply token status) setup = refl
+acted_is messages.MapTeardown setup = refl
+
+-- a reply that is queued after the window moved is queued with it
+reply_later : (s : EndState) (lane : LaneState) (setup : Setup) (last : List (Option Pair)) (message : Option Message) → management < length s.lanes
+    → (let t : EndState = record s { lanes = set s.lanes management (replied (option_map message_octets message) lane); last = last; setup = setup } in t)
+    ≡ with_message message (record s { lanes = set s.lanes management lane; last = last; setup = setup })
+reply_later s lane setup last None within = refl
+reply_later s lane setup last (Some message) within =
+    let own : get_or (set s.lanes management lane) management no_lane ≡ lane = get_or-set_same s.lanes management lane no_lane within in
+    let more = λ (l : LaneState). let m : LaneState = record l { queue = l.queue ++ message_octets message ∷ [] } in m in
+    let made = λ (lanes : List LaneState). let t : EndState = record s { lanes = lanes; last = last; setup = setup } in t in
+    ap made (sym (ap (λ (l : LaneState). set (set s.lanes management lane) management (more l)) own ∙ set_again s.lanes management lane (more lane)))
+
+told_is : (s : EndState) (lane : Lane) (body : List ℕ) (moved : Moved Arrival) → management < length s.lanes → heard_end s lane body (Stored moved) ≡ after_told lane body (with_moved lane moved s)
+told_is s (lanes.Tid tid) body moved within = refl
+told_is s lanes.Management body moved within =
+    let message = message_of body in
+    let setup : Setup = record s.setup { maps = maps_after message s.setup.maps } in
+    reply_later s (lane_moved (last_of s.last lanes.Management) moved (lane_at s management)) setup (pairs_moved lanes.Management moved s.last) (reply_to message s.setup.maps) within
+    ∙ ap (λ (made : Made). with_made made (with_moved lanes.Management moved s)) (sym (acted_is message s.setup))
+
+-- what comes of a body is what hearing it leaves
+pub hear_leaves : (s : EndState) (lane : Lane) (number : ℕ) (a : Arrival) → management < length s.lanes → is_above (last_of s.last lane) a.numbers.key a.numbers.pn ≡ true
+    → heard_end s lane a.body (arrived (lane_at s (lane_index lane)).window number (receive_size s.setup (lane_index lane)) a) ≡ after_hear lane number (receive_size s.setup (lane_index lane)) a s
+hear_leaves s lane number a within above = by_come (arrived (lane_at s (lane_index lane)).window number (receive_size s.setup (lane_index lane)) a) ∙ sym (ap (λ (b : Bool). if b then after_arrived lane a.body (arrived (lane_at s (lane_index lane)).window number (receive_size s.setup (lane_index lane)) a) s else s) above)
+  where
+    by_come : (come : Arrived Arrival) → heard_end s lane a.body come ≡ after_arrived lane a.body come s
+    by_come Old = ap (λ (l : List LaneState). let t : EndState = record s { lanes = l } in t) (set-get_or s.lanes (lane_index lane) no_lane)
+    by_come Doubled = ap (λ (l : List LaneState). let t : EndState = record s { lanes = l } in t) (set-get_or s.lanes (lane_index lane) no_lane)
+    by_come (Stored moved) = told_is s lane a.body moved within
+
+-- there is room for the reply, where there is one
+pub room_if : (s : EndState) (lane : Lane) (body : List ℕ) → length (lane_at s management).queue < 4294959104 → IfSome (reply_told lane body s.setup.maps) (λ reply. length (lane_at s (lane_index lane)).queue < 4294967295)
+room_if s (lanes.Tid tid) body room = tt
+room_if s lanes.Management body room = room_for (reply_to (message_of body) s.setup.maps)
+  where
+    room_for : (message : Option Message) → IfSome (option_map message_octets message) (λ reply. length (lane_at s management).queue < 4294967295)
+    room_for None = tt
+    room_for (Some message) = omega (arith, room)
+
+pub came_old : (last : Option Pair) (come : Arrived Arrival) → heard.Old ≡ heard_of last come → come ≡ Old
+came_old last Old is = refl
+came_old last Doubled is = absurd (cc is)
+came_old last (Stored moved) is = absurd (cc is)
+
+pub came_doubled : (last : Option Pair) (come : Arrived Arrival) → heard.Doubled ≡ heard_of last come → come ≡ Doubled
+came_doubled last Old is = absurd (cc is)
+came_doubled last Doubled is = refl
+came_doubled last (Stored moved) is = absurd (cc is)
+
+pub record CameStored (come : Arrived Arrival) : Type 0 where
+  pub moved : Moved Arrival
+  pub is : come ≡ Stored moved
+
+pub came_stored : (last : Option Pair) (come : Arrived Arrival) (up : List ℕ) → heard.Stored up ≡ heard_of last come → CameStored come
+came_stored last Old up is = absurd (cc is)
+came_stored last Doubled up is = absurd (cc is)
+came_stored last (Stored moved) up is = record { moved = moved; is = refl }
 
 -- an end after a call that took something into a lane, or failed and left all as it was
 took_or_not : {H E : Type 0} (s : EndState) (lane : Lane) (taken : LaneState) (pairs : List (Option Pair)) (r : Result H E) (new : LaneState) (last : List (Option Pair)) → IsEnd s → IsEnd (heard_at s (with_lane_of s.lanes lane taken) pairs)
@@ -63,11 +141,6 @@ took_or_not s lane taken pairs (Ok h) new last is then_is p q p' q' =
 took_or_not s lane taken pairs (Err e) new last is then_is p q p' q' =
     subst (λ (l : LaneState). IsEnd (heard_at s (with_lane_of s.lanes lane l) last)) (sym p')
     (subst (λ (l : List LaneState). IsEnd (heard_at s l last)) (sym (set-get_or s.lanes (lane_index lane) no_lane)) (subst (λ (o : List (Option Pair)). IsEnd (heard_at s s.lanes o)) (sym q') is))
-
-pub heard_kept : {H E : Type 0} → HearKeeps → (s : EndState) (lane : Lane) (a : Arrived Arrival) (r : Result H E) (new : LaneState) (last : List (Option Pair)) → IsEnd s
-    → OnOk r (new ≡ lane_after (last_of s.last lane) a (lane_at s (lane_index lane))) → OnOk r (last ≡ pairs_after lane a s.last) → OnErr r (new ≡ lane_at s (lane_index lane)) → OnErr r (last ≡ s.last)
-    → IsEnd (heard_at s (with_lane_of s.lanes lane new) last)
-heard_kept law s lane a r new last is = took_or_not s lane (lane_after (last_of s.last lane) a (lane_at s (lane_index lane))) (pairs_after lane a s.last) r new last is (heard_by law s lane a is)
 
 -- ---- acknowledging
 
@@ -84,16 +157,17 @@ given_lanes lane s (Ok sending) = refl
 given_lanes lane s (Err why) = ap (λ (l : List LaneState). let t : EndState = record s { lanes = l } in t) (set-get_or s.lanes (lane_index lane) no_lane)
 
 abbrev pub PassKeeps : Type 0
-PassKeeps = (lane : Lane) (moved : Option (Moved Arrival)) (s : EndState) → IsEnd s → IsEnd (after_moved lane moved s)
+PassKeeps = (bar : Bar) (s : EndState) → IsEnd s → IsEnd (after_moved bar.lane (moved_by bar s) s)
 
-passed_by : PassKeeps → (s : EndState) (lane : Lane) (m : Option (Moved Arrival)) → IsEnd s → IsEnd (heard_at s (with_lane_of s.lanes lane (lane_passed (last_of s.last lane) m (lane_at s (lane_index lane)))) (pairs_passed lane m s.last))
-passed_by law s lane None is = subst (λ (l : List LaneState). IsEnd (heard_at s l s.last)) (sym (set-get_or s.lanes (lane_index lane) no_lane)) is
-passed_by law s lane (Some moved) is = law lane (Some moved) s is
+passed_so : (s : EndState) (lane : Lane) (m : Option (Moved Arrival)) → IsEnd (after_moved lane m s) → IsEnd (heard_at s (with_lane_of s.lanes lane (lane_passed (last_of s.last lane) m (lane_at s (lane_index lane)))) (pairs_passed lane m s.last))
+passed_so s lane None is = subst (λ (l : List LaneState). IsEnd (heard_at s l s.last)) (sym (set-get_or s.lanes (lane_index lane) no_lane)) is
+passed_so s lane (Some moved) is = is
 
-pub passed_kept : {H E : Type 0} → PassKeeps → (s : EndState) (lane : Lane) (m : Option (Moved Arrival)) (r : Result H E) (new : LaneState) (last : List (Option Pair)) → IsEnd s
-    → OnOk r (new ≡ lane_passed (last_of s.last lane) m (lane_at s (lane_index lane))) → OnOk r (last ≡ pairs_passed lane m s.last) → OnErr r (new ≡ lane_at s (lane_index lane)) → OnErr r (last ≡ s.last)
-    → IsEnd (heard_at s (with_lane_of s.lanes lane new) last)
-passed_kept law s lane m r new last is = took_or_not s lane (lane_passed (last_of s.last lane) m (lane_at s (lane_index lane))) (pairs_passed lane m s.last) r new last is (passed_by law s lane m is)
+pub passed_kept : {H E : Type 0} → PassKeeps → (s : EndState) (bar : Bar) (r : Result H E) (new : LaneState) (last : List (Option Pair)) → IsEnd s
+    → OnOk r (new ≡ lane_passed (last_of s.last bar.lane) (moved_by bar s) (lane_at s (lane_index bar.lane))) → OnOk r (last ≡ pairs_passed bar.lane (moved_by bar s) s.last) → OnErr r (new ≡ lane_at s (lane_index bar.lane)) → OnErr r (last ≡ s.last)
+    → IsEnd (heard_at s (with_lane_of s.lanes bar.lane new) last)
+passed_kept law s bar r new last is =
+    took_or_not s bar.lane (lane_passed (last_of s.last bar.lane) (moved_by bar s) (lane_at s (lane_index bar.lane))) (pairs_passed bar.lane (moved_by bar s) s.last) r new last is (passed_so s bar.lane (moved_by bar s) (law bar s is))
 
 -- ---- keys
 

@@ -96,3 +96,9 @@ pub mark_filled : (marks filled : List Bool) (pos : ℕ) → pos < length filled
 mark_filled marks filled pos lt is =
     let next : pos + 1 - length marks ≡ suc pos - length marks = omega arith in
     mark_set filled pos lt ∙ ap (aired_at pos) (is ∙ ap (λ (k : ℕ). marks ++ replicate k false) next) ∙ mark_gap marks pos
+
+-- ---- all but the last
+
+pub all_front : {A : Type 0} (P : A → Type 0) (xs : List A) (last : A) → AllByRecursion P (xs ++ last ∷ []) → AllByRecursion P xs
+all_front P [] last h = tt
+all_front P (x ∷ xs) last h = (h.0, all_front P xs last h.1)

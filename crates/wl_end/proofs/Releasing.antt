@@ -9,7 +9,7 @@ use Rattle.wl_replay.specs.Replay.{last_of, is_above, with_last}
 use Rattle.wl_history.specs.declared.arrival.Arrival.{Arrival}
 use Rattle.wl_history.specs.EndState.{LetUp, let_up, pair_of, before_it}
 
-set_again : {A : Type 0} (xs : List A) (i : ℕ) (x y : A) → set (set xs i x) i y ≡ set xs i y
+pub set_again : {A : Type 0} (xs : List A) (i : ℕ) (x y : A) → set (set xs i x) i y ≡ set xs i y
 set_again [] i x y = refl
 set_again (z ∷ xs) zero x y = refl
 set_again (z ∷ xs) (suc i) x y = ap (λ (rest : List _). z ∷ rest) (set_again xs i x y)

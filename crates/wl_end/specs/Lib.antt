@@ -4,3 +4,4 @@ pub mod Ending
 pub mod Putting
 pub mod Peeking
 pub mod Listening
+pub mod Reacting

@@ -1,6 +1,6 @@
 -- For private contracts alone: what comes of a body that a lane's window takes or refuses, and of a request to
 -- move it.
-use Rattle.std.specs.Prelude.{ℕ, ◌≤◌, List, ◌++◌, length, Option, Some, None, slice_set}
+use Rattle.std.specs.Prelude.{ℕ, ◌≤◌, List, [], ◌∷◌, ◌++◌, length, Option, Some, None, slice_set}
 use Rattle.wl_elem.specs.declared.lane.Lane.{Lane}
 use Rattle.wl_elem.specs.Lanes.{lane_index}
 use Rattle.wl_replay.specs.declared.replay.Pair.{Pair}
@@ -29,6 +29,16 @@ lane_moved last moved lane = record lane { window = moved.window; released = lan
 abbrev pub lane_after : Option Pair → Arrived Arrival → LaneState → LaneState
 lane_after last (Stored moved) lane = lane_moved last moved lane
 lane_after last other lane = lane
+
+-- with a reply in its queue, where there is one
+abbrev pub replied : Option (List ℕ) → LaneState → LaneState
+replied None lane = lane
+replied (Some body) lane = record lane { queue = lane.queue ++ body ∷ [] }
+
+-- where it is stored, a reply is queued
+abbrev pub lane_heard : Option Pair → Option (List ℕ) → Arrived Arrival → LaneState → LaneState
+lane_heard last reply (Stored moved) lane = replied reply (lane_moved last moved lane)
+lane_heard last reply other lane = lane
 
 -- and of the last pairs
 abbrev pub pairs_moved : Lane → Moved Arrival → List (Option Pair) → List (Option Pair)

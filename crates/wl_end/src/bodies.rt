@@ -1,6 +1,6 @@
 //! Lists of bodies and frames.
 
-ghost use Rattle.std.specs.Prelude.{◌≡◌, ◌++◌, ◌∷◌, [], length, slice_get, option_copied, OnOk, OnErr};
+ghost use Rattle.std.specs.Prelude.{◌≡◌, ◌++◌, ◌∷◌, [], List, ℕ, length, slice_get, option_copied, OnOk, OnErr};
 ghost use Rattle.wl_history.specs.Words.{last_of};
 
 use std::alloc::Global;
@@ -38,6 +38,13 @@ impl Bodies {
     {
         self.list.push(body)?;
         Ok(())
+    }
+
+    /// Takes the last one back. It takes no memory.
+    pub fn take_back(&mut self)
+        ensures { (before : List (List ℕ)) (last : List ℕ) → self.old ≡ before ++ last ∷ [] → self.new ≡ before }
+    {
+        self.list.pop();
     }
 
     /// How many there are.

@@ -16,27 +16,32 @@ ghost use Rattle.wl_history.specs.declared.hand.Hand.TheVariants.{Reserve as Hol
 ghost use Rattle.wl_history.specs.Hands.{hand_of};
 ghost use Rattle.wl_history.specs.Answers.{last_key, reserve_answer, book_answer};
 ghost use Rattle.wl_history.specs.Ends.{send_size, receive_size, is_set_up, is_link};
+ghost use Rattle.wl_history.specs.Machines.{IsBodyOn};
 ghost use Rattle.wl_history.specs.Plain.{IsPlain, FitsIn};
 ghost use Rattle.wl_history.specs.Words.{at, last_of};
 ghost use Rattle.wl_elem.specs.Element.{msdu_limit};
+ghost use Rattle.wl_map.specs.Ends.{agreed_sets};
 
 use crate::flight::{Flight, Under, frame_octets};
 use crate::frames::Frames;
 use crate::hands::Hands;
 use crate::heard::Heard;
 use crate::lanes::Lanes;
-use crate::links::{link_at, links_set_up};
+use crate::links::{link_at, links_set_up, why_kept};
 use crate::peek::{Peek, peek_frame};
+use crate::react::react;
 use std::alloc::Global;
 use std::marker::Model;
-use wl_elem::{Bytes, EndId, KeysSpent, Lane, LinkId, LinkSet, Memory, Tid};
+use wl_elem::{Bytes, Direction, EndId, KeysSpent, Lane, LinkId, LinkSet, Memory, Tid};
 use wl_frame::{Sealer, decode_frame};
 use wl_history::{
-    Ack, Arrival, Bar, EndStart, Hand, KeptWhy, Opened, Outcome, SequenceNumbers, Setup,
-    a_booking_is_found, an_end_keeps,
+    Ack, Arrival, Bar, EndStart, Hand, Opened, Outcome, SequenceNumbers, Setup, a_booking_is_found,
+    an_end_keeps,
 };
+use wl_map::MapEnd;
 use wl_number::{Bookings, NumberState, Numbers, a_draw_is_next, booked_once, highest_breaks_none};
 use wl_replay::{KeyRing, ReplayGuard};
+use wl_ttlm::Mapping;
 use wl_window::{MoveRefusal, OriginRefusal};
 
 /// One end of an association: an AP MLD or a station MLD.
@@ -46,14 +51,14 @@ use wl_window::{MoveRefusal, OriginRefusal};
 /// way from the queue to the air.
 #[derive(Debug, Drop)]
 pub struct End {
-    alloc: Global,
+    pub(crate) alloc: Global,
     start: EndStart,
-    lanes: Lanes,
+    pub(crate) lanes: Lanes,
     hands: Hands,
     numbers: NumberState,
     booked: Bookings,
     guard: ReplayGuard,
-    setup: Setup,
+    pub(crate) setup: Setup,
     frames: Frames,
 }
 
@@ -128,7 +133,7 @@ fn enter(booked: &mut Bookings, lane: &Lane, n: Numbers)
 }
 
 impl End {
-    ghost use Rattle.wl_history.specs.EndState.{EndState, IsEnd, lane_at, frames_on, started, after_queue, after_reserve, after_book, after_put, put_down, with_frame, after_again, was_aired_at, hear_answer, after_hear, acked_by, after_ack, given_by, after_bar_out, moved_by, after_moved, after_install, after_turn};
+    ghost use Rattle.wl_history.specs.EndState.{EndState, IsEnd, lane_at, management, frames_on, started, after_queue, after_reserve, after_book, after_put, put_down, with_frame, after_again, was_aired_at, hear_answer, after_hear, acked_by, after_ack, given_by, after_bar_out, moved_by, after_moved, after_install, after_turn};
     ghost use Rattle.wl_end.specs.Parts.{frame_count};
     ghost use Rattle.wl_end.specs.Peeking.{IsPeek, PeekFits, IsBookingOf};
     ghost use Rattle.wl_history.specs.Answers.{put_of, aired_octets, booked_at, again_of, octets_again, moved_answer};
@@ -152,8 +157,11 @@ impl End {
         let numbers = NumberState::new(start.first_key, start.first_pn);
         let setup = Setup {
             links: links_set_up(&start),
+            radios: [true; 15],
             window: start.window,
             keys: KeyRing::new(start.newest),
+            maps: MapEnd::new(start.deny, links_set_up(&start)),
+            token: 0,
         };
         Ok(End {
             alloc,
@@ -182,6 +190,7 @@ impl End {
         ensures sound { IsEnd self.new }
     {
         an_end_keeps();
+        tid.get();
         let lane = Lane::Tid(tid);
         let pos = self.lanes.at(&lane).queued();
         self.lanes.at_mut(&lane).queue(body)?;
@@ -361,8 +370,9 @@ impl End {
 
     /// Sends the booking in a thread's hand over a link, and empties the hand, whatever is answered.
     ///
-    /// Nothing where the hand holds no booking or its position is done, Kept where the link isn't set
-    /// up. After `Memory` nothing has changed.
+    /// Nothing where the hand holds no booking or its position is done. Kept where the booking may not go
+    /// over the link, with the first reason that holds: the link isn't set up here, its radio is off
+    /// here, or the own agreed mapping doesn't map the lane to it. After `Memory` nothing has changed.
     pub fn put<Z: Sealer>(&mut self, thread: u16, link: LinkId, z: &Z) -> Result<Outcome, Memory>
         ensures answer { IfOk result (λ o. o ≡ put_of link (hand_of self.old.hands thread) self.old) }
         ensures plain { IfOk result IsPlain }
@@ -378,13 +388,9 @@ impl End {
             self.put_down(thread);
             return Ok(Outcome::Nothing);
         }
-        if !self.setup.links.has(link) {
+        if let Some(why) = why_kept(self.start.end, &self.setup, &lane, link) {
             self.put_down(thread);
-            return Ok(Outcome::Kept {
-                lane,
-                pos,
-                why: KeptWhy::NotSetUp,
-            });
+            return Ok(Outcome::Kept { lane, pos, why });
         }
         match self.air(thread, link, &lane, &numbers, z) {
             Ok(retry) => Ok(Outcome::Put {
@@ -399,8 +405,8 @@ impl End {
     /// Sends the booking at a position of a lane over a link, again or for the first time: the same sealed
     /// payload, whatever link it went over before and whatever key is sent under by now. No hand changes.
     ///
-    /// Nothing where the position isn't booked or is done, KeptAgain where the link isn't set up; they
-    /// change nothing. After `Memory` nothing has changed.
+    /// Nothing where the position isn't booked or is done, KeptAgain where it may not go over the link, as
+    /// `put` has it; they change nothing. After `Memory` nothing has changed.
     pub fn again<Z: Sealer>(
         &mut self,
         link: LinkId,
@@ -420,10 +426,8 @@ impl End {
         if self.lanes.at(&lane).is_done(numbers.pos) {
             return Ok(Outcome::Nothing);
         }
-        if !self.setup.links.has(link) {
-            return Ok(Outcome::KeptAgain {
-                why: KeptWhy::NotSetUp,
-            });
+        if let Some(why) = why_kept(self.start.end, &self.setup, &lane, link) {
+            return Ok(Outcome::KeptAgain { why });
         }
         match self.frame(link, &lane, &numbers, z) {
             Ok(retry) => Ok(Outcome::PutAgain { numbers, retry }),
@@ -466,7 +470,7 @@ impl End {
     /// holds, or what a payload was opened to. Nothing changes.
     ///
     /// - BadFrame: the octets aren't a frame.
-    /// - LinkDown: the frame is protected, and the link isn't set up.
+    /// - LinkDown: the radio is off on the link, or the frame is protected and the link isn't set up.
     /// - BadFrame with WrongAddress: the first address isn't the own one on the link, the second isn't
     ///   the peer's, or data goes the way that this end sends.
     /// - Ignored: an association frame.
@@ -514,11 +518,16 @@ impl End {
     /// Replay where its key and packet number aren't above those of the last body that the lane
     /// released, OldNumber where its number is 2,048 or more ahead of the window's start, Double where
     /// that is stored already; they change nothing. Otherwise it is stored, and of what goes up then
-    /// each body above the last one released is released. After `Memory` nothing has changed.
+    /// each body above the last one released is released. A body of management that is released acts: a
+    /// request for mappings is answered by a reply in the own queue, a reply and a teardown are taken.
+    /// After `Memory` nothing has changed.
     ///
-    /// Condition: the lane's window starts below 2^32 - 8,192.
+    /// Conditions: the lane's window starts below 2^32 - 8,192, the queue of management is shorter than
+    /// that, and a body of management is one that an end makes.
     pub fn hear(&mut self, lane: Lane, number: u16, arrival: Arrival) -> Result<Outcome, Memory>
-        requires { (lane_at self.old (lane_index lane)).window.start < 2 ^ 32 - 8192 }
+        requires low { (lane_at self.old (lane_index lane)).window.start < 2 ^ 32 - 8192 }
+        requires room { length (lane_at self.old management).queue < 2 ^ 32 - 8192 }
+        requires made { IsBodyOn lane arrival.body }
         ensures answer { IfOk result (λ o. o ≡ hear_answer lane number (receive_size self.old.setup (lane_index lane)) arrival self.old) }
         ensures fits { IfOk result (FitsIn (length (lane_at self.old (lane_index lane)).window.slots + 1)) }
         ensures after { OnOk result (self.new ≡ after_hear lane number (receive_size self.old.setup (lane_index lane)) arrival self.old) }
@@ -532,20 +541,25 @@ impl End {
             return Ok(Outcome::Replay);
         }
         let size = receive_size(&self.setup, &lane);
+        let mut maps = self.setup.maps;
+        let reply = react(self.alloc, &lane, arrival.body.as_slice(), &mut maps)?;
         let guard = &mut self.guard;
         let heard = self
             .lanes
             .at_mut(&lane)
-            .hear(self.alloc, &lane, number, size, arrival, guard);
+            .hear(self.alloc, &lane, number, size, arrival, reply, guard);
         match heard {
             Ok(Heard::Old) => Ok(Outcome::OldNumber),
             Ok(Heard::Doubled) => Ok(Outcome::Double),
-            Ok(Heard::Stored(up)) => Ok(Outcome::Stored {
-                lane,
-                number,
-                numbers,
-                up,
-            }),
+            Ok(Heard::Stored(up)) => {
+                self.setup.maps = maps;
+                Ok(Outcome::Stored {
+                    lane,
+                    number,
+                    numbers,
+                    up,
+                })
+            }
             Err(e) => Err(e),
         }
     }
@@ -742,6 +756,14 @@ impl End {
         ensures sound { IsEnd self.now }
     {
         self.setup.links
+    }
+
+    /// The mapping agreed on in a direction: by TID the links in force, none where no link is set up.
+    pub fn agreed(&self, d: Direction) -> Mapping
+        ensures value { result.sets ≡ agreed_sets d self.now.setup.maps }
+        ensures sound { IsEnd self.now }
+    {
+        self.setup.maps.agreed(d)
     }
 
     /// The number of the key that it sends under.

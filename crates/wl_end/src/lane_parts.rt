@@ -1,12 +1,12 @@
 //! One lane of an end.
 
-ghost use Rattle.std.specs.Prelude.{◌≡◌, ◌+◌, ◌-◌, ◌^◌, ◌<◌, ◌≤◌, ◌++◌, ◌∷◌, [], false, length, IfOk, IfSome, OnOk, OnErr};
+ghost use Rattle.std.specs.Prelude.{◌≡◌, ◌+◌, ◌-◌, ◌^◌, ◌<◌, ◌≤◌, ◌++◌, ◌∷◌, [], List, ℕ, false, length, IfOk, IfSome, OnOk, OnErr};
 ghost use Rattle.wl_window.specs.Reordering.{IsStore, arrived, requested, stored_numbers};
 ghost use Rattle.wl_window.specs.Originating.{Sending, IsSending, is_done, is_booked, booked_count, reserved, with_booked, acked, given_up, base_answer, sending_after, granted_answer, newly_answer, sending_acked};
 ghost use Rattle.wl_elem.specs.Lanes.{lane_index};
 ghost use Rattle.wl_replay.specs.Replay.{last_of};
 ghost use Rattle.wl_history.specs.Words.{body_at};
-ghost use Rattle.wl_end.specs.Listening.{heard_of, HeardFits, lane_after, pairs_after, up_of, lane_passed, pairs_passed};
+ghost use Rattle.wl_end.specs.Listening.{heard_of, HeardFits, lane_after, lane_heard, pairs_after, up_of, lane_passed, pairs_passed};
 
 use crate::bodies::Bodies;
 use crate::entries::fill;
@@ -201,9 +201,56 @@ impl LaneParts {
         self.released.as_slice()
     }
 
+    /// Takes the last body of the queue back. It takes no memory.
+    fn take_back(&mut self)
+        requires { (before : List (List ℕ)) × (last : List ℕ) × (self.old.queue ≡ before ++ last ∷ []) }
+        ensures { (before : List (List ℕ)) (last : List ℕ) → self.old.queue ≡ before ++ last ∷ [] → self.new ≡ record self.old { queue = before } }
+    {
+        self.queue.take_back();
+    }
+
+    /// Takes a body of the lane that opened, as `store` does, and queues a reply where it was stored.
+    /// After `Memory` nothing has changed.
+    pub fn hear(
+        &mut self,
+        alloc: Global,
+        lane: &Lane,
+        number: u16,
+        size: u16,
+        arrival: Arrival,
+        reply: Option<Bytes>,
+        guard: &mut ReplayGuard,
+    ) -> Result<Heard, Memory>
+        requires place { lane_index lane.now < length guard.old }
+        requires some_size { 1 ≤ size }
+        requires size_limit { size ≤ self.old.room }
+        requires start { self.old.window.start < 2 ^ 32 - 4096 }
+        requires short { IfSome reply IsShort }
+        requires countable { IfSome reply (λ _. length self.old.queue < 2 ^ 32 - 1) }
+        ensures heard { IfOk result (λ h. h ≡ heard_of (last_of guard.old lane.now) (arrived self.old.window number size arrival)) }
+        ensures fits { IfOk result (HeardFits (length self.old.window.slots + 1)) }
+        ensures after { OnOk result (self.new ≡ lane_heard (last_of guard.old lane.now) reply (arrived self.old.window number size arrival) self.old) }
+        ensures pairs { OnOk result (guard.new ≡ pairs_after lane.now (arrived self.old.window number size arrival) guard.old) }
+        ensures unchanged { OnErr result (self.new ≡ self.old) }
+        ensures same_pairs { OnErr result (guard.new ≡ guard.old) }
+    {
+        let Some(body) = reply else {
+            return self.store(alloc, lane, number, size, arrival, guard);
+        };
+        // The reply is queued first: what was stored can't be undone.
+        self.queue(body)?;
+        match self.store(alloc, lane, number, size, arrival, guard) {
+            Ok(Heard::Stored(up)) => Ok(Heard::Stored(up)),
+            other => {
+                self.take_back();
+                other
+            }
+        }
+    }
+
     /// Takes a body of the lane that opened, while its window has this size, and releases what goes up
     /// and is above the lane's last pair. After `Memory` nothing has changed.
-    pub fn hear(
+    fn store(
         &mut self,
         alloc: Global,
         lane: &Lane,
@@ -235,6 +282,7 @@ impl LaneParts {
         release(&mut self.ups, guard, lane, &mut self.released, &mut up);
         Ok(Heard::Stored(Positions::from_vec(up)))
     }
+
     /// Moves the window to these 12 bits, and releases what goes up and is above the lane's last pair. None
     /// exactly where it doesn't move; then nothing changes. After `Memory` nothing has changed.
     pub fn request(

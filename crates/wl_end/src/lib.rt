@@ -12,7 +12,9 @@ mod heard;
 mod lane_parts;
 mod lanes;
 mod links;
+mod machines;
 mod peek;
+mod react;
 
 pub use end::End;
 pub use peek::Peek;

@@ -2,10 +2,10 @@
 
 ghost use Rattle.std.specs.Prelude.{◌≡◌, ◌<◌, ℕ, true, is_some, length};
 ghost use Rattle.wl_elem.specs.Links.{link_limit, has_link};
-ghost use Rattle.wl_history.specs.Ends.{mld_of, address_on, is_link, link_at, links_begun, links_in};
+ghost use Rattle.wl_history.specs.Ends.{mld_of, address_on, is_link, link_at, links_begun, links_in, is_powered, own_way, has_some, is_mapped, why_kept};
 
-use wl_elem::{EndId, LinkId, LinkSet, MacAddr};
-use wl_history::{EndStart, LinkStart};
+use wl_elem::{Direction, EndId, Lane, LinkId, LinkSet, MacAddr};
+use wl_history::{EndStart, KeptWhy, LinkStart, Setup};
 
 /// The link of this ID. None exactly where there is none.
 pub(crate) fn link_at(links: &[LinkStart], id: LinkId) -> Option<LinkStart>
@@ -81,4 +81,61 @@ fn checked(address: &MacAddr) -> MacAddr
     ensures six { length result ≡ 6 }
 {
     MacAddr::new(address.octets())
+}
+
+/// Whether the radio of a link is on.
+pub(crate) fn is_powered(setup: &Setup, link: LinkId) -> bool
+    ensures { result ≡ is_powered setup.now link }
+{
+    setup.radios[usize::from(link.get())]
+}
+
+/// The direction in which an end sends.
+fn own_way(end: EndId) -> Direction
+    ensures { result ≡ own_way end }
+{
+    match end {
+        EndId::Ap => Direction::Down,
+        EndId::Sta => Direction::Up,
+    }
+}
+
+/// Whether some TID has the link in a direction.
+fn has_some(d: Direction, setup: &Setup, link: LinkId) -> bool
+    ensures { result ≡ has_some d setup.now link }
+{
+    let mapping = setup.maps.agreed(d);
+    mapping.sets.iter().any(|set| set.has(link))
+}
+
+/// Whether an end's agreed mapping has the link for a lane: for data that of its own direction for the
+/// TID, for management either for some TID.
+fn is_mapped(end: EndId, setup: &Setup, lane: &Lane, link: LinkId) -> bool
+    ensures { result ≡ is_mapped end setup.now lane.now link }
+{
+    match lane {
+        Lane::Tid(tid) => {
+            let mapping = setup.maps.agreed(own_way(end));
+            mapping.sets[usize::from(tid.get())].has(link)
+        }
+        Lane::Management => {
+            has_some(Direction::Down, setup, link) || has_some(Direction::Up, setup, link)
+        }
+    }
+}
+
+/// Why an end may not send a frame of a lane over a link. None exactly where it may.
+pub(crate) fn why_kept(end: EndId, setup: &Setup, lane: &Lane, link: LinkId) -> Option<KeptWhy>
+    ensures { result ≡ why_kept end setup.now lane.now link }
+{
+    if !setup.links.has(link) {
+        return Some(KeptWhy::NotSetUp);
+    }
+    if !is_powered(setup, link) {
+        return Some(KeptWhy::Unpowered);
+    }
+    if !is_mapped(end, setup, lane, link) {
+        return Some(KeptWhy::Unmapped);
+    }
+    None
 }

@@ -7,10 +7,10 @@ ghost use Rattle.wl_frame.specs.Reading.{value};
 ghost use Rattle.wl_history.specs.Ends.{link_address};
 ghost use Rattle.wl_end.specs.Peeking.{verdict, closed_of, OpenedAs, PeekedAs, PeekFits};
 ghost use Rattle.wl_history.specs.Plain.{IsPlain};
-ghost use Rattle.wl_history.specs.Hearing.{is_own_way, judged_frame, judged_kind, judged_protected};
+ghost use Rattle.wl_history.specs.Hearing.{is_down, is_own_way, judged_frame, judged_kind, judged_protected};
 
 use crate::flight::{Under, is_same};
-use crate::links::{address_on, link_at};
+use crate::links::{address_on, is_powered, link_at};
 use std::alloc::Global;
 use wl_elem::{EndId, Lane, LinkId, MacAddr, Memory, Why};
 use wl_frame::{Frame, Header, Kind, Sealer, are_octets};
@@ -68,6 +68,13 @@ fn is_own_way(receiver: EndId, kind: &Kind) -> bool
         (EndId::Sta, Kind::Qos { to_ap, .. }) => *to_ap,
         _ => false,
     }
+}
+
+/// Whether the radio is off on the link, or the frame is protected and the link isn't set up.
+fn is_down(setup: &Setup, link: LinkId, kind: &Kind) -> bool
+    ensures { result ≡ is_down setup.now link kind.now }
+{
+    !is_powered(setup, link) || (kind.is_protected() && !setup.links.has(link))
 }
 
 /// The answer to a wrong address, at its place.
@@ -137,7 +144,7 @@ fn judge(
 {
     let header = &frame.header;
     let receiver = start.end;
-    if header.kind.is_protected() && !setup.links.has(link) {
+    if is_down(setup, link, &header.kind) {
         return Err(Outcome::LinkDown);
     }
     if !is_address(start, link, receiver, &header.a1) {

@@ -1,6 +1,6 @@
 -- The answers by cases: a property of each answer that a command can have.
 use Rattle.std.proofs.Common.{◌≡◌, ℕ, suc, ◌-◌, Bool, true, false, List, [], ◌∷◌, Option, Some, None, Result, Ok, Err, refl, sym, ap, subst, ◌∙◌, arith, inl, inr}
-use Rattle.std.specs.Prelude.{◌⊎◌, ◌==◌, ◌&&◌, nat_le, if◌then◌else◌, not, bytes_eq}
+use Rattle.std.specs.Prelude.{◌⊎◌, ◌==◌, nat_le, if◌then◌else◌, not, bytes_eq}
 use Rattle.std.specs.List.{Contains}
 use Rattle.wl_elem.specs.declared.fault.Refusal.{Refusal}
 use Rattle.wl_elem.specs.declared.lane.EndId.{EndId}
@@ -10,7 +10,7 @@ use Rattle.wl_elem.specs.Lanes.{peer_of}
 use Rattle.wl_frame.specs.declared.header.Kind.{Kind}
 use Rattle.wl_frame.specs.declared.header.Kind.TheVariants.{Qos, Action, AssocAsk, AssocReply}
 use Rattle.wl_frame.specs.declared.header.Protection.{Protection}
-use Rattle.wl_frame.specs.Frame.{FrameValue, is_protected}
+use Rattle.wl_frame.specs.Frame.{FrameValue}
 use Rattle.wl_frame.specs.Sealing.{Sealing}
 use Rattle.wl_number.specs.declared.numbers.Numbers.{Numbers}
 use Rattle.wl_number.specs.NumberObject.{NumberObject, is_spent, drawn}
@@ -20,13 +20,13 @@ use Rattle.wl_history.specs.declared.hand.Hand.{Hand}
 use Rattle.wl_history.specs.declared.hand.Hand.TheVariants as hand
 use Rattle.wl_history.specs.declared.outcome.Outcome.{Outcome}
 use Rattle.wl_history.specs.declared.outcome.Outcome.TheVariants as outcomes
-use Rattle.wl_history.specs.declared.outcome.KeptWhy.TheVariants.{NotSetUp}
+use Rattle.wl_history.specs.declared.outcome.KeptWhy.{KeptWhy}
 use Rattle.wl_history.specs.declared.setup.Setup.{Setup}
 use Rattle.wl_history.specs.declared.start.EndStart.{EndStart}
 use Rattle.wl_history.specs.Plain.{IsPlain}
 use Rattle.wl_history.specs.Answers.{is_empty, granted_outcome, reserve_answer, book_answer, put_answer, again_answer, at_position}
-use Rattle.wl_history.specs.Hearing.{Closed, Judged, Answered, ToOpen, with_key, judged_protected, judged_kind, judged, is_of, booking_of, is_own_way}
-use Rattle.wl_history.specs.Ends.{is_set_up, link_address}
+use Rattle.wl_history.specs.Hearing.{is_down, Closed, Judged, Answered, ToOpen, with_key, judged_protected, judged_kind, judged, is_of, booking_of, is_own_way}
+use Rattle.wl_history.specs.Ends.{link_address}
 use Rattle.wl_elem.specs.declared.why.Why.TheVariants.{WrongAddress}
 
 empty_hand : (h : Hand) → is_empty h ≡ true → h ≡ hand.Empty
@@ -62,15 +62,15 @@ book_cases P hand.Empty o none spent booked = none
 book_cases P (hand.Booking lane n) o none spent booked = none
 book_cases P (hand.Reserve lane) o none spent booked = book_by P lane (is_spent o) (drawn o lane) (spent lane refl) (booked lane refl)
 
-pub put_cases : (P : Outcome → Type 0) (lane : Lane) (n : Numbers) (done aired up : Bool) → P outcomes.Nothing → P (outcomes.Kept lane n.pos NotSetUp) → (up ≡ true → P (outcomes.Put lane n aired)) → P (put_answer lane n done aired up)
-put_cases P lane n true aired up none kept put = none
-put_cases P lane n false aired true none kept put = put refl
-put_cases P lane n false aired false none kept put = kept
+pub put_cases : (P : Outcome → Type 0) (lane : Lane) (n : Numbers) (done aired : Bool) (why : Option KeptWhy) → P outcomes.Nothing → ((reason : KeptWhy) → P (outcomes.Kept lane n.pos reason)) → (why ≡ None → P (outcomes.Put lane n aired)) → P (put_answer lane n done aired why)
+put_cases P lane n true aired why none kept put = none
+put_cases P lane n false aired None none kept put = put refl
+put_cases P lane n false aired (Some reason) none kept put = kept reason
 
-pub again_cases : (P : Outcome → Type 0) (n : Numbers) (done aired up : Bool) → P outcomes.Nothing → P (outcomes.KeptAgain NotSetUp) → (up ≡ true → P (outcomes.PutAgain n aired)) → P (again_answer n done aired up)
-again_cases P n true aired up none kept put = none
-again_cases P n false aired true none kept put = put refl
-again_cases P n false aired false none kept put = kept
+pub again_cases : (P : Outcome → Type 0) (n : Numbers) (done aired : Bool) (why : Option KeptWhy) → P outcomes.Nothing → ((reason : KeptWhy) → P (outcomes.KeptAgain reason)) → (why ≡ None → P (outcomes.PutAgain n aired)) → P (again_answer n done aired why)
+again_cases P n true aired why none kept put = none
+again_cases P n false aired None none kept put = put refl
+again_cases P n false aired (Some reason) none kept put = kept reason
 
 at_by : (b : Bool) (pos : ℕ) (m n : Numbers) (ms : List Numbers) → (at_position pos ms ≡ Some n → Contains ms n) → (if b then Some m else at_position pos ms) ≡ Some n → Contains (m ∷ ms) n
 at_by true pos m n ms more found = let same : m ≡ n = cc in (0, omega arith, same)
@@ -112,7 +112,7 @@ plain_by false false false false w x y z last p q r s t = t
 
 pub judged_plain : (start : EndStart) (setup : Setup) (e : EndId) (link : ℕ) (reading : Result FrameValue Refusal) → JudgedPlain (judged start setup e link reading)
 judged_plain start setup e link (Ok f) =
-    plain_by (is_protected f.header.kind && not (is_set_up setup link)) (not (bytes_eq f.header.a1 (link_address start link e))) (not (bytes_eq f.header.a2 (link_address start link (peer_of e)))) (is_own_way e f.header.kind)
+    plain_by (is_down setup link f.header.kind) (not (bytes_eq f.header.a1 (link_address start link e))) (not (bytes_eq f.header.a2 (link_address start link (peer_of e)))) (is_own_way e f.header.kind)
     outcomes.LinkDown (outcomes.BadFrame WrongAddress 4) (outcomes.BadFrame WrongAddress 10) (outcomes.BadFrame WrongAddress 1) (judged_kind setup.keys f f.header.kind) tt tt tt tt (plain_kind setup.keys f f.header.kind)
 judged_plain start setup e link (Err refusal) = tt
 

@@ -2,6 +2,8 @@ pub mod Lanes
 pub mod Hands
 pub mod Sender
 pub mod Booking
+pub mod Idle
+pub mod Making
 pub mod Keeping
 pub mod Telling
 pub mod Growing

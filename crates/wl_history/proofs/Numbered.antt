@@ -1,9 +1,9 @@
 -- A frame with another sequence number is the frame that has it.
-use Rattle.std.proofs.Common.{◌≡◌, ℕ, ◌+◌, ◌*◌, ◌/◌, ◌%◌, ◌<◌, List, [], ◌∷◌, ◌++◌, length, get_or, set, refl, sym, ap, ◌∙◌, arith, length-append, append_assoc}
+use Rattle.std.proofs.Common.{◌≡◌, ℕ, ◌+◌, ◌*◌, ◌/◌, ◌%◌, ◌<◌, List, ◌∷◌, ◌++◌, length, set, sym, ap, ◌∙◌, arith, length-append, append_assoc}
 use Rattle.std.proofs.lemmas.List.{set-append_right, get_or-append_right}
 use Rattle.wl_elem.specs.Octets.{octets_of}
 use Rattle.wl_frame.specs.declared.header.Header.{Header}
-use Rattle.wl_frame.specs.Frame.{FrameValue, IsHeader, first_octet, flags, header_text, qos_control, ccmp_header, spelling}
+use Rattle.wl_frame.specs.Frame.{FrameValue, IsHeader, first_octet, flags, qos_control, ccmp_header, spelling}
 use Rattle.wl_history.specs.Hearing.{with_number}
 
 -- what stands before the sequence control, and behind it

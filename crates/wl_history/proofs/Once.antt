@@ -27,6 +27,7 @@ pub answered_once : ReadOnce → (text : Sealing) (thread : ℕ) (command : Comm
 answered_once once text thread (commands.Deliver end link nth) a o p x y = heard_once once text (end_of a end) (end_of a (peer_of end)) link (octets_heard text (commands.Deliver end link nth) a) o p x y
 answered_once once text thread (commands.Alter end link nth number) a o p x y = heard_once once text (end_of a end) (end_of a (peer_of end)) link (octets_heard text (commands.Alter end link nth number) a) o p x y
 answered_once once text thread (commands.Forge end link lane key pn number body) a o p x y = heard_once once text (end_of a end) (end_of a (peer_of end)) link (octets_heard text (commands.Forge end link lane key pn number body) a) o p x y
+answered_once once text thread (commands.Inject end link octets) a o p x y = heard_once once text (end_of a end) (end_of a (peer_of end)) link (octets_heard text (commands.Inject end link octets) a) o p x y
 answered_once once text thread other a o p x y = x ∙ sym y
 
 abbrev made : ℕ → Command → Outcome → Step

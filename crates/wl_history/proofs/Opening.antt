@@ -1,6 +1,6 @@
 -- What is to be opened has its numbers in their ranges.
 use Rattle.std.proofs.Common.{◌≡◌, ℕ, ◌<◌, ◌^◌, Bool, true, false, List, Option, None, Some, Result, Ok, Err, subst}
-use Rattle.std.specs.Prelude.{◌&&◌, not, if◌then◌else◌, IfSome, bytes_eq}
+use Rattle.std.specs.Prelude.{not, if◌then◌else◌, IfSome, bytes_eq}
 use Rattle.wl_elem.specs.declared.fault.Refusal.{Refusal}
 use Rattle.wl_elem.specs.declared.why.Why.TheVariants.{WrongAddress}
 use Rattle.wl_elem.specs.declared.lane.EndId.{EndId}
@@ -10,15 +10,15 @@ use Rattle.wl_elem.specs.Lanes.{peer_of, IsLane}
 use Rattle.wl_frame.specs.declared.header.Kind.{Kind}
 use Rattle.wl_frame.specs.declared.header.Kind.TheVariants.{Qos, Action, AssocAsk, AssocReply}
 use Rattle.wl_frame.specs.declared.header.Protection.{Protection}
-use Rattle.wl_frame.specs.Frame.{FrameValue, IsKind, IsProtection, is_protected}
+use Rattle.wl_frame.specs.Frame.{FrameValue, IsKind, IsProtection}
 use Rattle.wl_frame.specs.Refusals.{ReadAs}
 use Rattle.wl_replay.specs.Keys.{held}
 use Rattle.wl_history.specs.declared.outcome.Outcome.{Outcome}
 use Rattle.wl_history.specs.declared.outcome.Outcome.TheVariants as outcomes
 use Rattle.wl_history.specs.declared.setup.Setup.{Setup}
 use Rattle.wl_history.specs.declared.start.EndStart.{EndStart}
-use Rattle.wl_history.specs.Ends.{is_set_up, link_address}
-use Rattle.wl_history.specs.Hearing.{Closed, IsClosed, Judged, Answered, ToOpen, is_own_way, with_key, judged_protected, judged_kind, judged}
+use Rattle.wl_history.specs.Ends.{link_address}
+use Rattle.wl_history.specs.Hearing.{is_down, Closed, IsClosed, Judged, Answered, ToOpen, is_own_way, with_key, judged_protected, judged_kind, judged}
 
 abbrev Fits : Judged → Type 0
 Fits (Answered outcome) = Unit {0}
@@ -48,7 +48,7 @@ fits_after false false false false w x y z j h = h
 fits : (start : EndStart) (setup : Setup) (e : EndId) (link : ℕ) (octets : List ℕ) (reading : Result FrameValue Refusal) → ReadAs octets reading → Fits (judged start setup e link reading)
 fits start setup e link octets (Err refusal) read = tt
 fits start setup e link octets (Ok f) read =
-    fits_after (is_protected f.header.kind && not (is_set_up setup link)) (not (bytes_eq f.header.a1 (link_address start link e))) (not (bytes_eq f.header.a2 (link_address start link (peer_of e)))) (is_own_way e f.header.kind)
+    fits_after (is_down setup link f.header.kind) (not (bytes_eq f.header.a1 (link_address start link e))) (not (bytes_eq f.header.a2 (link_address start link (peer_of e)))) (is_own_way e f.header.kind)
     outcomes.LinkDown (outcomes.BadFrame WrongAddress 4) (outcomes.BadFrame WrongAddress 10) (outcomes.BadFrame WrongAddress 1) (judged_kind setup.keys f f.header.kind)
     (fits_kind setup.keys f f.header.kind read.is_frame.header.kind read.is_frame.header.number read.is_frame.protection)
 

@@ -10,7 +10,7 @@ use Rattle.wl_elem.specs.declared.lane.Lane.{Lane}
 use Rattle.wl_elem.specs.declared.lane.Lane.TheVariants as lanes
 use Rattle.wl_elem.specs.Lanes.{peer_of, lane_index, lane_count, IsLane}
 use Rattle.wl_elem.specs.declared.why.Why.TheVariants.{WrongAddress}
-use Rattle.wl_frame.specs.Frame.{FrameValue, is_protected}
+use Rattle.wl_frame.specs.Frame.{FrameValue}
 use Rattle.wl_frame.specs.Refusals.{ReadAs}
 use Rattle.wl_frame.specs.Sealing.{Sealing}
 use Rattle.wl_frame.specs.declared.header.Kind.{Kind}
@@ -28,25 +28,26 @@ use Rattle.wl_history.specs.declared.command.Command.{Command}
 use Rattle.wl_history.specs.declared.command.Command.TheVariants as commands
 use Rattle.wl_history.specs.declared.outcome.Outcome.{Outcome}
 use Rattle.wl_history.specs.declared.outcome.Outcome.TheVariants as outcomes
+use Rattle.wl_history.specs.declared.outcome.KeptWhy.TheVariants.{NotSetUp, Unpowered, Unmapped}
 use Rattle.wl_history.specs.declared.setup.Setup.{Setup}
 use Rattle.wl_history.specs.declared.start.EndStart.{EndStart}
 use Rattle.wl_history.specs.declared.start.Start.{Start}
 use Rattle.wl_history.specs.declared.step.Step.{Step}
-use Rattle.wl_history.specs.Ends.{start_of, is_set_up, link_address}
+use Rattle.wl_history.specs.Ends.{start_of, link_address, IsAllowed, is_set_up, is_powered, is_mapped, why_kept}
 use Rattle.wl_history.specs.Hands.{hand_of}
 use Rattle.wl_history.specs.Words.{setup_of, queued, body_at, booked, Airing, receiving}
 use Rattle.wl_history.specs.Answers.{put_of, again_of, booked_at}
 use Rattle.wl_history.specs.EndState.{EndState, lane_at, arrival_of, hear_arrived, hear_answer}
 use Rattle.wl_history.specs.AirState.{AirState, end_of, octets_heard, state_of}
-use Rattle.wl_history.specs.Hearing.{Closed, Judged, Answered, ToOpen, with_key, judged_protected, judged_kind, judged, is_of, sealed_under, opened_under, text_of, is_own_way}
+use Rattle.wl_history.specs.Hearing.{is_down, Closed, Judged, Answered, ToOpen, with_key, judged_protected, judged_kind, judged, is_of, sealed_under, opened_under, text_of, is_own_way}
 use Rattle.wl_history.specs.Plain.{IsPlain}
 use Rattle.wl_history.specs.Legal.{IsAnswer, Legal, HeardIf, judged_at, judged_answer, opened_answer, booking_found}
-use Rattle.wl_history.specs.Safe.{InOrder, OrderKept, IsSame, NumbersKept, PutAllowed, StepAllowed, LinksKept, HeardOpened, StepOpened, KeysKept, Safe}
-use Rattle.wl_history.specs.Below.{NumberLaws, WindowLaws}
+use Rattle.wl_history.specs.Safe.{InOrder, OrderKept, IsSame, NumbersKept, PutAllowed, AgainAllowed, StepAllowed, LinksKept, HeardOpened, StepOpened, KeysKept, Safe}
+use Rattle.wl_history.specs.Below.{NumberLaws, WindowLaws, MessageLaws}
 use Rattle.wl_history.proofs.Growing.{AiredWell, contains_within}
 use Rattle.wl_history.proofs.Receiving.{every, Rising, Trans}
 use Rattle.wl_history.proofs.Cases.{put_cases, again_cases, plain_answer, found_is_of, found_there}
-use Rattle.wl_history.proofs.Sound.{Sound, all_sound}
+use Rattle.wl_history.proofs.Sound.{Sound, all_sound, own_end, legal_start}
 
 -- what the order of bookings says of two
 pub record OrderLaws : Type 0 where
@@ -77,9 +78,9 @@ rule_of text start air steps sound e = subst OrderRule (sound.told e).booked_are
 
 order_kept : OrderLaws → (text : Sealing) (start : Start) (air : AirState) (steps : List Step) → Sound text start air steps → (e : EndId) (l : ℕ) → OrderKept start e l steps
 order_kept laws text start air steps sound e l = record {
-  in_order = in_order laws (booked (peer_of e) steps) (rule_of text start air steps sound (peer_of e)) l (receiving (start_of start e) e l steps).released
-      (every _ _ (λ item b. b.booked) (receiving (start_of start e) e l steps).released (sound.got e l).released_good) (sound.got e l).rising;
-  queued_there = every _ _ (λ item b. record { within = b.within; same = b.same }) (receiving (start_of start e) e l steps).released (sound.got e l).released_good;
+  in_order = in_order laws (booked (peer_of e) steps) (rule_of text start air steps sound (peer_of e)) l (receiving start e l steps).released
+      (every _ _ (λ item b. b.booked) (receiving start e l steps).released (sound.got e l).released_good) (sound.got e l).rising;
+  queued_there = every _ _ (λ item b. record { within = b.within; same = b.same }) (receiving start e l steps).released (sound.got e l).released_good;
 }
 
 -- ---- numbers
@@ -93,14 +94,14 @@ same_place lanes.Management lanes.Management p q e = refl
 
 module _ (laws : OrderLaws) (text : Sealing) (start : Start) (air : AirState) (steps : List Step) (sound : Sound text start air steps) (e : EndId) where
   abbrev Well : Airing → Type 0
-  Well a = AiredWell (λ l. queued e l steps) (booked e steps) a
+  Well a = AiredWell (λ l. queued start e l steps) (booked e steps) a
 
   one_text : (a b : Airing) → Well a → Well b → a.numbers.key ≡ b.numbers.key → a.numbers.pn ≡ b.numbers.pn → IsSame text (start_of start e) e a b
   one_text a b p q keys pns =
       let one = laws.one_booking (booked e steps) (lane_index a.lane) (lane_index b.lane) a.numbers b.numbers (rule_of text start air steps sound e) p.booking.booked q.booking.booked keys pns in
       let lane : a.lane ≡ b.lane = same_place a.lane b.lane p.of_lane q.of_lane one.0 in
       let body : a.body ≡ b.body =
-      p.booking.same ∙ ap (λ (l : ℕ). body_at (queued e l steps) a.numbers.pos) one.0 ∙ ap (λ (n : Numbers). body_at (queued e (lane_index b.lane) steps) n.pos) one.1 ∙ sym q.booking.same in
+      p.booking.same ∙ ap (λ (l : ℕ). body_at (queued start e l steps) a.numbers.pos) one.0 ∙ ap (λ (n : Numbers). body_at (queued start e (lane_index b.lane) steps) n.pos) one.1 ∙ sym q.booking.same in
       record {
         lane = lane;
         numbers = one.1;
@@ -110,7 +111,7 @@ module _ (laws : OrderLaws) (text : Sealing) (start : Start) (air : AirState) (s
             ∙ ap (λ (x : List ℕ). text_of text (sealed_under (start_of start e) e b.lane b.numbers x)) body;
       }
 
-  booked_queued : (lane : Lane) (n : Numbers) → Contains (list_of (booked e steps) lane) n → n.pos < length (queued e (lane_index lane) steps)
+  booked_queued : (lane : Lane) (n : Numbers) → Contains (list_of (booked e steps) lane) n → n.pos < length (queued start e (lane_index lane) steps)
   booked_queued lane n is =
       let s = end_of air e in
       let there : Contains (list_of s.booked lane) n = subst (λ (bs : List (List Numbers)). Contains (list_of bs lane) n) (sym (sound.told e).booked_are) is in
@@ -128,30 +129,52 @@ module _ (laws : OrderLaws) (text : Sealing) (start : Start) (air : AirState) (s
 
 -- ---- links
 
-put_allowed : (s : EndState) (link : ℕ) (h : Hand) → PutAllowed s.setup link (put_of link h s)
+-- what isn't kept is allowed
+allowed_by : (e : EndId) (setup : Setup) (lane : Lane) (link : ℕ) (up on mapped : Bool) → is_set_up setup link ≡ up → is_powered setup link ≡ on → is_mapped e setup lane link ≡ mapped
+    → (if not up then Some NotSetUp else if not on then Some Unpowered else if not mapped then Some Unmapped else None) ≡ None → IsAllowed e setup lane link
+allowed_by e setup lane link true true true p q r none = record { set_up = p; powered = q; mapped = r }
+allowed_by e setup lane link true true false p q r none = absurd (cc none)
+allowed_by e setup lane link true false mapped p q r none = absurd (cc none)
+allowed_by e setup lane link false on mapped p q r none = absurd (cc none)
+
+allowed : (e : EndId) (setup : Setup) (lane : Lane) (link : ℕ) → why_kept e setup lane link ≡ None → IsAllowed e setup lane link
+allowed e setup lane link none = allowed_by e setup lane link _ _ _ refl refl refl none
+
+put_allowed : (s : EndState) (link : ℕ) (h : Hand) → PutAllowed s.start.end s.setup link (put_of link h s)
 put_allowed s link hand.Empty = tt
 put_allowed s link (hand.Reserve lane) = tt
-put_allowed s link (hand.Booking lane n) = put_cases (PutAllowed s.setup link) lane n _ _ _ tt tt (λ up. up)
+put_allowed s link (hand.Booking lane n) = put_cases (PutAllowed s.start.end s.setup link) lane n _ _ _ tt (λ why. tt) (λ none. allowed s.start.end s.setup lane link none)
 
-again_allowed : (s : EndState) (link : ℕ) (lane : Lane) (found : Option Numbers) → PutAllowed s.setup link (again_of link lane found s)
+again_allowed : (s : EndState) (link : ℕ) (lane : Lane) (found : Option Numbers) → AgainAllowed s.start.end s.setup link lane (again_of link lane found s)
 again_allowed s link lane None = tt
-again_allowed s link lane (Some n) = again_cases (PutAllowed s.setup link) n _ _ _ tt tt (λ up. up)
+again_allowed s link lane (Some n) = again_cases (AgainAllowed s.start.end s.setup link lane) n _ _ _ tt (λ why. tt) (λ none. allowed s.start.end s.setup lane link none)
 
-step_allowed : (text : Sealing) (start : Start) (air : AirState) (before : List Step) → ((e : EndId) → (end_of air e).setup ≡ setup_of (start_of start e) e before) → (thread : ℕ) (command : Command) (outcome : Outcome)
+-- an end is the one that it is, and has set up what the words say
+pub record IsOwn (start : Start) (before : List Step) (e : EndId) (s : EndState) : Type 0 where
+  pub end_is : s.start.end ≡ e
+  pub setup_is : s.setup ≡ setup_of start e before
+
+step_allowed : (text : Sealing) (start : Start) (air : AirState) (before : List Step) → ((e : EndId) → IsOwn start before e (end_of air e)) → (thread : ℕ) (command : Command) (outcome : Outcome)
     → IsAnswer text thread command air outcome → StepAllowed start before command outcome
-step_allowed text start air before setups thread (commands.Put end link) outcome is =
-    let held = hand_of (end_of air end).hands thread in
-    subst (PutAllowed (setup_of (start_of start end) end before) link) (sym is) (subst (λ (setup : Setup). PutAllowed setup link (put_of link held (end_of air end))) (setups end) (put_allowed (end_of air end) link held))
-step_allowed text start air before setups thread (commands.Again end link lane pos) outcome is =
-    let found = booked_at (end_of air end) lane pos in
-    subst (PutAllowed (setup_of (start_of start end) end before) link) (sym is) (subst (λ (setup : Setup). PutAllowed setup link (again_of link lane found (end_of air end))) (setups end) (again_allowed (end_of air end) link lane found))
-step_allowed text start air before setups thread other outcome is = tt
+step_allowed text start air before own thread (commands.Put end link) outcome is =
+    let s = end_of air end in
+    let held = hand_of s.hands thread in
+    subst (PutAllowed end (setup_of start end before) link) (sym is)
+    (subst (λ (setup : Setup). PutAllowed end setup link (put_of link held s)) (own end).setup_is (subst (λ (e : EndId). PutAllowed e s.setup link (put_of link held s)) (own end).end_is (put_allowed s link held)))
+step_allowed text start air before own thread (commands.Again end link lane pos) outcome is =
+    let s = end_of air end in
+    let found = booked_at s lane pos in
+    subst (AgainAllowed end (setup_of start end before) link lane) (sym is)
+    (subst (λ (setup : Setup). AgainAllowed end setup link lane (again_of link lane found s)) (own end).setup_is (subst (λ (e : EndId). AgainAllowed e s.setup link lane (again_of link lane found s)) (own end).end_is (again_allowed s link lane found)))
+step_allowed text start air before own thread other outcome is = tt
 
-links_kept : NumberLaws → WindowLaws → Trans → (text : Sealing) (start : Start) (steps : List Step) → Legal text start steps → LinksKept start steps
-links_kept numbers windows trans text start [] legal = tt
-links_kept numbers windows trans text start (step ∷ before) legal = (
-  links_kept numbers windows trans text start before legal.0,
-  step_allowed text start (state_of text start before) before (λ e. ((all_sound numbers windows trans text start before legal.0).told e).setup_is) step.thread step.command step.outcome legal.1.answer,
+links_kept : NumberLaws → WindowLaws → MessageLaws → Trans → (text : Sealing) (start : Start) (steps : List Step) → Legal text start steps → LinksKept start steps
+links_kept numbers windows messages trans text start [] legal = tt
+links_kept numbers windows messages trans text start (step ∷ before) legal = (
+  links_kept numbers windows messages trans text start before legal.0,
+  step_allowed text start (state_of text start before) before
+      (λ e. let told = (all_sound numbers windows messages trans text start before legal.0).told e in record { end_is = ap (λ (x : EndStart). x.end) told.start_is ∙ own_end start (legal_start text start before legal.0) e; setup_is = told.setup_is })
+      step.thread step.command step.outcome legal.1.answer,
 )
 
 -- ---- keys
@@ -196,7 +219,7 @@ key_after newest false false false false w x y z j h = h
 key_judged : (start : EndStart) (setup : Setup) (e : EndId) (link : ℕ) (reading : Result FrameValue Refusal) → KeyHeld setup.keys (judged start setup e link reading)
 key_judged start setup e link (Err refusal) = tt
 key_judged start setup e link (Ok f) =
-    key_after setup.keys (is_protected f.header.kind && not (is_set_up setup link)) (not (bytes_eq f.header.a1 (link_address start link e))) (not (bytes_eq f.header.a2 (link_address start link (peer_of e)))) (is_own_way e f.header.kind)
+    key_after setup.keys (is_down setup link f.header.kind) (not (bytes_eq f.header.a1 (link_address start link e))) (not (bytes_eq f.header.a2 (link_address start link (peer_of e)))) (is_own_way e f.header.kind)
     outcomes.LinkDown (outcomes.BadFrame WrongAddress 4) (outcomes.BadFrame WrongAddress 10) (outcomes.BadFrame WrongAddress 1) (judged_kind setup.keys f f.header.kind) (key_kind setup.keys f f.header.kind)
 
 same_key : (text : Sealing) (start : EndStart) (e : EndId) (c : Closed) (bodies : List (List ℕ)) (n : Numbers) → is_of text start e c bodies n ≡ true → n.key ≡ c.key
@@ -249,6 +272,7 @@ step_opened : (text : Sealing) (air : AirState) (thread : ℕ) (command : Comman
 step_opened text air thread (commands.Deliver end link nth) outcome is = heard_opened text (end_of air end) (end_of air (peer_of end)) link (octets_heard text (commands.Deliver end link nth) air) outcome is
 step_opened text air thread (commands.Alter end link nth number) outcome is = heard_opened text (end_of air end) (end_of air (peer_of end)) link (octets_heard text (commands.Alter end link nth number) air) outcome is
 step_opened text air thread (commands.Forge end link lane key pn number body) outcome is = heard_opened text (end_of air end) (end_of air (peer_of end)) link (octets_heard text (commands.Forge end link lane key pn number body) air) outcome is
+step_opened text air thread (commands.Inject end link octets) outcome is = heard_opened text (end_of air end) (end_of air (peer_of end)) link (octets_heard text (commands.Inject end link octets) air) outcome is
 step_opened text air thread other outcome is = tt
 
 keys_kept : (text : Sealing) (start : Start) (steps : List Step) → Legal text start steps → KeysKept text start steps
@@ -257,13 +281,13 @@ keys_kept text start (step ∷ before) legal = (keys_kept text start before lega
 
 -- ---- all
 
-pub safe : NumberLaws → WindowLaws → OrderLaws → (text : Sealing) (start : Start) (steps : List Step) → Legal text start steps → Safe text start steps
-safe numbers windows laws text start steps legal =
+pub safe : NumberLaws → WindowLaws → MessageLaws → OrderLaws → (text : Sealing) (start : Start) (steps : List Step) → Legal text start steps → Safe text start steps
+safe numbers windows messages laws text start steps legal =
     let air = state_of text start steps in
-    let sound = all_sound numbers windows laws.trans text start steps legal in
+    let sound = all_sound numbers windows messages laws.trans text start steps legal in
     record {
       order = λ e lane. order_kept laws text start air steps sound e (lane_index lane);
       numbers = numbers_kept laws text start air steps sound;
-      links = links_kept numbers windows laws.trans text start steps legal;
+      links = links_kept numbers windows messages laws.trans text start steps legal;
       keys = keys_kept text start steps legal;
     }

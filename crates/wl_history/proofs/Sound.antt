@@ -2,7 +2,7 @@
 use Rattle.std.proofs.Common.{◌≡◌, ℕ, zero, suc, ◌+◌, ◌<◌, ◌≤◌, Bool, true, false, eq-eqb, List, [], ◌∷◌, ◌++◌, length, get_or, Option, Some, None, Result, Ok, Err, refl, sym, ap, subst, ◌∙◌, arith}
 use Rattle.std.specs.Prelude.{◌==◌, ◌&&◌, ◌||◌, if◌then◌else◌}
 use Rattle.std.specs.List.{Contains, AllByRecursion}
-use Rattle.std.proofs.lemmas.Bool.{both_ways, le-ltb}
+use Rattle.std.proofs.lemmas.Bool.{both_ways, eqb-true, le-ltb}
 use Rattle.wl_elem.specs.declared.fault.Refusal.{Refusal}
 use Rattle.wl_elem.specs.declared.lane.EndId.{EndId}
 use Rattle.wl_elem.specs.declared.lane.EndId.TheVariants.{Ap, Sta}
@@ -34,39 +34,44 @@ use Rattle.wl_history.specs.declared.start.Start.{Start}
 use Rattle.wl_history.specs.declared.step.Step.{Step}
 use Rattle.wl_history.specs.Ends.{IsStart, start_of, receive_size, send_size}
 use Rattle.wl_history.specs.Hands.{hand_of}
-use Rattle.wl_history.specs.Words.{setup_of, queued, body_at, booked, booked_with, send_key, key_booked, Airing, airings, airings_put, airings_again, Receiving, receiving, received, taken, passed_if, moved_to, installed, key_turned}
+use Rattle.wl_message.specs.Message.{message_of}
+use Rattle.wl_message.specs.declared.changes.MapEntry.{MapEntry}
+use Rattle.wl_history.specs.declared.command.Machine.{Machine}
+use Rattle.wl_history.specs.Machines.{Made, IsMade, IsBodyOn, AreEntries, installed, switched, map_asked, map_torn, given, acted}
+use Rattle.wl_history.specs.Words.{Terms, terms, terms_made, told_on, terms_heard, queue_by, msdus, setup_of, queued, body_at, booked, booked_with, send_key, key_booked, Airing, airings, airings_put, airings_again, Receiving, receiving, received, taken, passed_if, moved_to, key_turned}
 use Rattle.wl_history.specs.Answers.{reserve_answer, book_answer, put_of, booked_at, again_of, octets_again, airing_of, aired_octets, moved_answer, bar_answer, turn_answer}
 use Rattle.wl_history.specs.Hearing.{octets_of, Closed, Judged, Answered, ToOpen}
-use Rattle.wl_history.specs.EndState.{EndState, LaneState, IsEnd, lane_at, no_lane, no_lanes, no_management, no_frames, started, was_aired_at, with_frame, let_up, with_moved, put_down, after_queue, after_reserve, after_book, after_put, after_arrived, after_hear, after_again, after_acked, after_taken, acked_by, after_given, after_bar_out, given_by, moved_by, after_moved, after_request, arrival_of, after_heard, hear_arrived, hear_answer, after_install, after_turn}
+use Rattle.wl_history.specs.EndState.{EndState, LaneState, IsEnd, lane_at, no_lane, no_lanes, no_management, no_frames, started, was_aired_at, with_frame, let_up, with_moved, put_down, after_queue, after_reserve, after_book, after_put, after_arrived, after_hear, after_told, management, with_made, after_again, after_acked, after_taken, acked_by, after_given, after_bar_out, given_by, moved_by, after_moved, after_request, arrival_of, after_heard, hear_arrived, hear_answer, after_turn}
 use Rattle.wl_history.specs.AirState.{AirState, end_of, with_end, with_acks, with_bars, ack_named, bar_named, octets_heard, begun, after, state_of}
 use Rattle.wl_history.specs.Plain.{IsPlain}
-use Rattle.wl_history.specs.Legal.{Fits, IsAnswer, Legal, HeardIf, judged_at, judged_answer, opened_answer, booking_found}
+use Rattle.wl_history.specs.Legal.{Fits, InRanges, IsAnswer, Legal, HeardIf, judged_at, judged_answer, opened_answer, booking_found}
 use Rattle.wl_history.specs.Scripts.{step_of}
 use Rattle.wl_history.specs.Sender.{has_position}
 use Rattle.wl_history.specs.Stands.{LaneTells, Tells, EndStands}
 use Rattle.wl_history.proofs.Lanes.{same_list, no_member}
-use Rattle.wl_history.specs.Below.{NumberLaws, WindowLaws}
+use Rattle.wl_history.specs.Below.{NumberLaws, WindowLaws, MessageLaws}
 use Rattle.wl_history.proofs.Sender.{lane_within}
-use Rattle.wl_history.proofs.Keeping.{queue_kept, reserve_kept, given_back, booked_so, puts_down, aired_so, framed_kept, hear_kept, ack_kept, given_kept, moved_kept, install_kept, turn_kept}
-use Rattle.wl_history.proofs.Telling.{queue_tells, sending_tells, booked_tells, down_tells, framed_tells, moved_tells, asked_tells, install_tells, turn_tells}
-use Rattle.wl_history.proofs.Growing.{IsBooking, contains_within, booking_queued, booking_booked, Aired, aired_still, aired_more}
+use Rattle.wl_history.proofs.Keeping.{queue_kept, reserve_kept, given_back, booked_so, puts_down, aired_so, framed_kept, stored_kept, hear_kept, ack_kept, given_kept, moved_kept, made_kept, turn_kept}
+use Rattle.wl_history.proofs.Making.{installed_made, switched_made, asked_made, torn_made, given_made}
+use Rattle.wl_history.proofs.Telling.{queue_tells, sending_tells, booked_tells, down_tells, framed_tells, moved_tells, asked_tells, made_tells, tells_alike, turn_tells}
+use Rattle.wl_history.proofs.Growing.{IsBooking, contains_within, booking_longer, queued_longer, booking_booked, Aired, aired_still, aired_more}
 use Rattle.wl_history.proofs.Receiving.{Trans, Got, got_taken, got_asked, got_still}
 use Rattle.wl_history.proofs.Cases.{reserve_cases, book_cases, put_cases, again_cases, at_there, plain_answer, found_there}
 
-abbrev pub AiredAt : EndId → List Step → Type 0
-AiredAt e steps = Aired (λ l. queued e l steps) (booked e steps) (airings e steps)
+abbrev pub AiredAt : Start → EndId → List Step → Type 0
+AiredAt start e steps = Aired (λ l. queued start e l steps) (booked e steps) (airings start e steps)
 
 -- an item of a lane is a booking of its sender
-abbrev pub IsItem : EndId → ℕ → List Step → Arrival → Type 0
-IsItem sender l steps item = IsBooking (λ m. queued sender m steps) (booked sender steps) l item.numbers item.body
+abbrev pub IsItem : Start → EndId → ℕ → List Step → Arrival → Type 0
+IsItem start sender l steps item = IsBooking (λ m. queued start sender m steps) (booked sender steps) l item.numbers item.body
 
 abbrev pub GotAt : Start → EndId → ℕ → List Step → Type 0
-GotAt start e l steps = Got (IsItem (peer_of e) l steps) (receiving (start_of start e) e l steps)
+GotAt start e l steps = Got (IsItem start (peer_of e) l steps) (receiving start e l steps)
 
 pub record Sound (text : Sealing) (start : Start) (a : AirState) (steps : List Step) : Type 0 where
   pub ends : (e : EndId) → IsEnd (end_of a e)
   pub told : (e : EndId) → EndStands text start e (end_of a e) steps
-  pub aired : (e : EndId) → AiredAt e steps
+  pub aired : (e : EndId) → AiredAt start e steps
   pub got : (e : EndId) (l : ℕ) → GotAt start e l steps
 
 -- ---- the start
@@ -139,18 +144,24 @@ started_end start some most = record {
   gapless = record { next = λ l. no_position start.first_key start.first_pn l ∙ ap (λ (ns : List Numbers). length ns) (sym (nothing_at l)) };
   sized = record { some_window = some; window_limit = most };
   roomy = λ l. room_begun start.window l most;
+  managed = record { made = λ pos lt. absurd (omega (arith, lt)); idle = refl };
+  token_fits = omega arith;
 }
 
+-- no body is queued on any lane
+none_queued : (l : ℕ) → (if l == management then [] else []) ≡ (let none : List (List ℕ) = [] in none)
+none_queued l = elim (l == management) as (λ (b : Bool). (if b then [] else []) ≡ (let none : List (List ℕ) = [] in none)) [ true ↦ refl | false ↦ refl ]
+
 started_told : (text : Sealing) (start : Start) (e : EndId) → EndStands text start e (started (start_of start e)) []
-started_told text start e = record {
+started_told text start e = tells_alike text (start_of start e) e (started (start_of start e)) (λ l. []) no_bookings [] (λ l. receiving start e l []) (send_key (start_of start e) e []) (setup_of start e []) (record {
   start_is = refl;
   setup_is = refl;
   key_is = refl;
-  lanes = λ l lt. lane_begun (λ lane. LaneTells l lane [] (receiving (start_of start e) e l []) []) (record { queue_is = refl; window = refl; released = refl; flags = λ pos. refl }) (record { queue_is = refl; window = refl; released = refl; flags = λ pos. refl }) l;
+  lanes = λ l lt. lane_begun (λ lane. LaneTells l lane [] (receiving start e l []) []) (record { queue_is = refl; window = refl; released = refl; flags = λ pos. refl }) (record { queue_is = refl; window = refl; released = refl; flags = λ pos. refl }) l;
   booked_are = refl;
   last = λ l lt. all_same no_pairs None l (refl, (refl, (refl, (refl, (refl, (refl, (refl, (refl, (refl, tt)))))))));
   frames = λ link lt. all_same no_frames [] link (refl, (refl, (refl, (refl, (refl, (refl, (refl, (refl, (refl, (refl, (refl, (refl, (refl, (refl, (refl, tt)))))))))))))));
-}
+}) (λ l. queued start e l []) (λ l. sym (none_queued l))
 
 pub sound_start : (text : Sealing) (start : Start) → IsStart start → Sound text start (begun start) []
 sound_start text start is = record {
@@ -162,11 +173,11 @@ sound_start text start is = record {
 
 -- ---- a step
 
-own_end : (start : Start) → IsStart start → (e : EndId) → (start_of start e).end ≡ e
+pub own_end : (start : Start) → IsStart start → (e : EndId) → (start_of start e).end ≡ e
 own_end start is Ap = is.ap_end
 own_end start is Sta = is.sta_end
 
-module _ (laws : NumberLaws) (windows : WindowLaws) (trans : Trans) (text : Sealing) (start : Start) (is_start : IsStart start) (a : AirState) (before : List Step) (sound : Sound text start a before) where
+module _ (laws : NumberLaws) (windows : WindowLaws) (messages : MessageLaws) (trans : Trans) (text : Sealing) (start : Start) (is_start : IsStart start) (a : AirState) (before : List Step) (sound : Sound text start a before) where
   -- the end that acts is the one that is looked at, or another
   by_end : (P : EndId → EndId → Bool → EndState → Type 0) (f : EndId → EndState) → ((x : EndId) → P x x true (f x)) → ((x y : EndId) → P x y false (end_of a y)) → (end e : EndId) → P end e (same_end end e) (end_of (with_end end (f end) a) e)
   by_end P f same other Ap Ap = same Ap
@@ -175,26 +186,26 @@ module _ (laws : NumberLaws) (windows : WindowLaws) (trans : Trans) (text : Seal
   by_end P f same other Sta Sta = same Sta
 
   abbrev setup_at : EndId → Setup
-  setup_at e = setup_of (start_of start e) e before
+  setup_at e = setup_of start e before
 
   -- the words of the end, with others for some
   abbrev Told : EndId → EndState → (ℕ → List (List ℕ)) → List (List Numbers) → List Airing → (ℕ → Receiving) → ℕ → Type 0
   Told e s queue bookings aired got key = Tells text (start_of start e) e s queue bookings aired got key (setup_at e)
 
   abbrev queues : EndId → ℕ → List (List ℕ)
-  queues e l = queued e l before
+  queues e l = queued start e l before
 
   abbrev gots : EndId → ℕ → Receiving
-  gots e l = receiving (start_of start e) e l before
+  gots e l = receiving start e l before
 
   abbrev key_of : EndId → ℕ
   key_of e = send_key (start_of start e) e before
 
   abbrev Still : EndId → EndState → Type 0
-  Still e s = Told e s (queues e) (booked e before) (airings e before) (gots e) (key_of e)
+  Still e s = Told e s (queues e) (booked e before) (airings start e before) (gots e) (key_of e)
 
   -- what is booked on a lane is of a queued body
-  word_queued : (e : EndId) (l : ℕ) (n : Numbers) → Contains (list_at (end_of a e).booked l) n → n.pos < length (queued e l before)
+  word_queued : (e : EndId) (l : ℕ) (n : Numbers) → Contains (list_at (end_of a e).booked l) n → n.pos < length (queued start e l before)
   word_queued e l n there =
       let s = end_of a e in
       let lt : l < lane_count = omega (arith, contains_within s.booked l n there, (sound.ends e).sender.nine) in
@@ -202,12 +213,30 @@ module _ (laws : NumberLaws) (windows : WindowLaws) (trans : Trans) (text : Seal
       omega (arith, pos, ap (λ (q : List (List ℕ)). length q) ((sound.told e).lanes l lt).queue_is)
 
   -- and its body is the one queued there
-  booking_is : (e : EndId) (l : ℕ) (n : Numbers) → Contains (list_at (end_of a e).booked l) n → IsBooking (queues e) (booked e before) l n (body_at (queued e l before) n.pos)
+  booking_is : (e : EndId) (l : ℕ) (n : Numbers) → Contains (list_at (end_of a e).booked l) n → IsBooking (queues e) (booked e before) l n (body_at (queued start e l before) n.pos)
   booking_is e l n there = record {
     booked = subst (λ (bs : List (List Numbers)). Contains (list_at bs l) n) (sound.told e).booked_are there;
     within = word_queued e l n there;
     same = refl;
   }
+
+  -- ---- whatever is done, queues only grow
+
+  booking_still : (step : Step) (e : EndId) (l : ℕ) (n : Numbers) (body : List ℕ) → IsBooking (queues e) (booked e before) l n body → IsBooking (λ m. queued start e m (step ∷ before)) (booked e before) l n body
+  booking_still step e l n body b = booking_longer (queues e) (λ m. queued start e m (step ∷ before)) (λ m. queued_longer start e m step before) (booked e before) l n body b
+
+  aired_longer : (step : Step) (e : EndId) → Aired (λ l. queued start e l (step ∷ before)) (booked e before) (airings start e before)
+  aired_longer step e = aired_still (queues e) (λ l. queued start e l (step ∷ before)) (booked e before) (booked e before) (airings start e before) (booking_still step e) (sound.aired e)
+
+  abbrev Later : Step → EndId → ℕ → Arrival → Type 0
+  Later step sender l item = IsBooking (λ m. queued start sender m (step ∷ before)) (booked sender before) l item.numbers item.body
+
+  -- what was received is of a booking still
+  still_got : (step : Step) (e : EndId) (l : ℕ) (r : Receiving) → Got (IsItem start (peer_of e) l before) r → Got (Later step (peer_of e) l) r
+  still_got step e l r g = got_still (IsItem start (peer_of e) l before) (Later step (peer_of e) l) (λ item b. booking_still step (peer_of e) l item.numbers item.body b) r g
+
+  got_longer : (step : Step) (e : EndId) (l : ℕ) → Got (Later step (peer_of e) l) (gots e l)
+  got_longer step e l = still_got step e l (gots e l) (sound.got e l)
 
   -- ---- queue
 
@@ -215,16 +244,28 @@ module _ (laws : NumberLaws) (windows : WindowLaws) (trans : Trans) (text : Seal
     abbrev queue_step : Step
     queue_step = step_of thread (commands.Queue end tid body) outcome
 
-    queue_still : (e : EndId) (l : ℕ) (n : Numbers) (at : List ℕ) → IsBooking (queues e) (booked e before) l n at → IsBooking (λ m. queued e m (queue_step ∷ before)) (booked e before) l n at
-    queue_still e l n at b = booking_queued (λ m. same_end end e && at_place (lanes.Tid tid) m) body (queues e) (booked e before) l n at b
+    -- a TID is no place of management
+    data_more : (b : Bool) (l : ℕ) (bodies own : List (List ℕ)) → tid < 8 → (here : Bool) → at_place (lanes.Tid tid) l ≡ here → (managed : Bool) → (l == management) ≡ managed
+        → (if here then (if managed then bodies else own) ++ body ∷ [] else (if managed then bodies else own)) ≡ (if managed then bodies else (if here then own ++ body ∷ [] else own))
+    data_more b l bodies own lt true here true managed = absurd (let at : tid ≡ l = eqb-true tid l here in let place : l ≡ 8 = eqb-true l management managed in omega (arith, lt, at, place))
+    data_more b l bodies own lt true here false managed = refl
+    data_more b l bodies own lt false here true managed = refl
+    data_more b l bodies own lt false here false managed = refl
+
+    queue_own : (x : EndId) → tid < 8 → Told x (after_queue tid body (end_of a x)) (queue_by (terms start x before).bodies (λ l. if at_place (lanes.Tid tid) l then msdus x l before ++ body ∷ [] else msdus x l before)) (booked x before) (airings start x before) (gots x) (key_of x)
+    queue_own x lt =
+        tells_alike text (start_of start x) x (after_queue tid body (end_of a x)) (λ l. if at_place (lanes.Tid tid) l then queues x l ++ body ∷ [] else queues x l) (booked x before) (airings start x before) (gots x) (key_of x) (setup_at x)
+        (queue_tells text (start_of start x) x (end_of a x) (queues x) (booked x before) (airings start x before) (gots x) (key_of x) (setup_at x) (sound.ends x) (sound.told x) tid body)
+        (queue_by (terms start x before).bodies (λ l. if at_place (lanes.Tid tid) l then msdus x l before ++ body ∷ [] else msdus x l before))
+        (λ l. data_more true l (terms start x before).bodies (msdus x l before) lt (at_place (lanes.Tid tid) l) refl (l == management) refl)
 
     sound_queue : Fits start (commands.Queue end tid body) → Sound text start (after text thread (commands.Queue end tid body) outcome a) (step_of thread (commands.Queue end tid body) outcome ∷ before)
     sound_queue fits = record {
-      ends = by_end (λ end e b s. IsEnd s) (λ x. after_queue tid body (end_of a x)) (λ x. queue_kept (end_of a x) tid body (sound.ends x) fits.2) (λ x y. sound.ends y) end;
-      told = by_end (λ end e b s. Told e s (λ l. if b && at_place (lanes.Tid tid) l then queues e l ++ body ∷ [] else queues e l) (booked e before) (airings e before) (gots e) (key_of e)) (λ x. after_queue tid body (end_of a x))
-          (λ x. queue_tells text (start_of start x) x (end_of a x) (queues x) (booked x before) (airings x before) (gots x) (key_of x) (setup_at x) (sound.ends x) (sound.told x) tid body) (λ x y. sound.told y) end;
-      aired = λ e. aired_still (queues e) (λ l. queued e l (queue_step ∷ before)) (booked e before) (booked e before) (airings e before) (queue_still e) (sound.aired e);
-      got = λ e l. got_still (IsItem (peer_of e) l before) (λ item. IsBooking (λ m. queued (peer_of e) m (queue_step ∷ before)) (booked (peer_of e) before) l item.numbers item.body) (λ item b. queue_still (peer_of e) l item.numbers item.body b) (gots e l) (sound.got e l);
+      ends = by_end (λ end e b s. IsEnd s) (λ x. after_queue tid body (end_of a x)) (λ x. queue_kept (end_of a x) tid body (sound.ends x) fits.2 (λ at. absurd (omega (arith, fits.0, at)))) (λ x y. sound.ends y) end;
+      told = by_end (λ end e b s. Told e s (queue_by (terms start e before).bodies (λ l. if b && at_place (lanes.Tid tid) l then msdus e l before ++ body ∷ [] else msdus e l before)) (booked e before) (airings start e before) (gots e) (key_of e)) (λ x. after_queue tid body (end_of a x))
+          (λ x. queue_own x fits.0) (λ x y. sound.told y) end;
+      aired = aired_longer queue_step;
+      got = got_longer queue_step;
     }
 
   -- ---- reserve
@@ -246,7 +287,7 @@ module _ (laws : NumberLaws) (windows : WindowLaws) (trans : Trans) (text : Seal
     reserve_tells x =
         let s = end_of a x in
         reserve_cases (λ o. Still x (after_reserve thread lane o s)) (hand_of s.hands thread) (length (lane_at s (lane_index lane)).queue) (lane_at s (lane_index lane)).sending (send_size s.setup (lane_index lane)) (sound.told x) (sound.told x) (sound.told x)
-        (λ empty more. sending_tells text (start_of start x) x s (queues x) (booked x before) (airings x before) (gots x) (key_of x) (setup_at x) (sound.ends x) (sound.told x) (lane_index lane) _ _)
+        (λ empty more. sending_tells text (start_of start x) x s (queues x) (booked x before) (airings start x before) (gots x) (key_of x) (setup_at x) (sound.ends x) (sound.told x) (lane_index lane) _ _)
 
     sound_reserve : IsAnswer text thread (commands.Reserve end lane) a outcome → Sound text start (after text thread (commands.Reserve end lane) outcome a) (step_of thread (commands.Reserve end lane) outcome ∷ before)
     sound_reserve is = record {
@@ -273,12 +314,12 @@ module _ (laws : NumberLaws) (windows : WindowLaws) (trans : Trans) (text : Seal
         let s = end_of a x in
         book_cases (λ o. IsEnd (after_book thread o s)) (hand_of s.hands thread) s.numbers (sound.ends x) (λ lane held. given_back s thread lane (sound.ends x) held) (λ lane held. booked_so laws windows s thread lane (sound.ends x) held)
 
-    book_tells : (x : EndId) → Told x (after_book thread (book_told x) (end_of a x)) (queues x) (booked_with (book_told x) (booked x before)) (airings x before) (gots x) (key_booked (book_told x) (key_of x))
+    book_tells : (x : EndId) → Told x (after_book thread (book_told x) (end_of a x)) (queues x) (booked_with (book_told x) (booked x before)) (airings start x before) (gots x) (key_booked (book_told x) (key_of x))
     book_tells x =
         let s = end_of a x in
-        book_cases (λ o. Told x (after_book thread o s) (queues x) (booked_with o (booked x before)) (airings x before) (gots x) (key_booked o (key_of x))) (hand_of s.hands thread) s.numbers (sound.told x)
-        (λ lane held. sending_tells text (start_of start x) x s (queues x) (booked x before) (airings x before) (gots x) (key_of x) (setup_at x) (sound.ends x) (sound.told x) (lane_index lane) _ _)
-        (λ lane held. booked_tells text (start_of start x) x s (queues x) (booked x before) (airings x before) (gots x) (key_of x) (setup_at x) (sound.ends x) (sound.told x) thread lane)
+        book_cases (λ o. Told x (after_book thread o s) (queues x) (booked_with o (booked x before)) (airings start x before) (gots x) (key_booked o (key_of x))) (hand_of s.hands thread) s.numbers (sound.told x)
+        (λ lane held. sending_tells text (start_of start x) x s (queues x) (booked x before) (airings start x before) (gots x) (key_of x) (setup_at x) (sound.ends x) (sound.told x) (lane_index lane) _ _)
+        (λ lane held. booked_tells text (start_of start x) x s (queues x) (booked x before) (airings start x before) (gots x) (key_of x) (setup_at x) (sound.ends x) (sound.told x) thread lane)
 
     abbrev Grows : EndId → List (List Numbers) → Type 0
     Grows e bookings = (l : ℕ) (n : Numbers) (body : List ℕ) → IsBooking (queues e) (booked e before) l n body → IsBooking (queues e) bookings l n body
@@ -297,20 +338,20 @@ module _ (laws : NumberLaws) (windows : WindowLaws) (trans : Trans) (text : Seal
     sound_book : Sound text start (after text thread (commands.Book end) outcome a) (step_of thread (commands.Book end) outcome ∷ before)
     sound_book = record {
       ends = λ e. by_end (λ end e b s. Books end → IsEnd s) (λ x. after_book thread outcome (end_of a x)) (λ x own. subst (λ (o : Outcome). IsEnd (after_book thread o (end_of a x))) (sym own) (book_ends x)) (λ x y own. sound.ends y) end e is;
-      told = λ e. by_end (λ end e b s. Books end → Told e s (queues e) (if b then booked_with outcome (booked e before) else booked e before) (airings e before) (gots e) (if b then key_booked outcome (key_of e) else key_of e)) (λ x. after_book thread outcome (end_of a x))
-          (λ x own. subst (λ (o : Outcome). Told x (after_book thread o (end_of a x)) (queues x) (booked_with o (booked x before)) (airings x before) (gots x) (key_booked o (key_of x))) (sym own) (book_tells x)) (λ x y own. sound.told y) end e is;
-      aired = λ e. aired_still (queues e) (queues e) (booked e before) (booked e (book_step ∷ before)) (airings e before) (book_still e) (sound.aired e);
-      got = λ e l. got_still (IsItem (peer_of e) l before) (λ item. IsBooking (queues (peer_of e)) (booked (peer_of e) (book_step ∷ before)) l item.numbers item.body) (λ item b. book_still (peer_of e) l item.numbers item.body b) (gots e l) (sound.got e l);
+      told = λ e. by_end (λ end e b s. Books end → Told e s (queues e) (if b then booked_with outcome (booked e before) else booked e before) (airings start e before) (gots e) (if b then key_booked outcome (key_of e) else key_of e)) (λ x. after_book thread outcome (end_of a x))
+          (λ x own. subst (λ (o : Outcome). Told x (after_book thread o (end_of a x)) (queues x) (booked_with o (booked x before)) (airings start x before) (gots x) (key_booked o (key_of x))) (sym own) (book_tells x)) (λ x y own. sound.told y) end e is;
+      aired = λ e. aired_still (queues e) (queues e) (booked e before) (booked e (book_step ∷ before)) (airings start e before) (book_still e) (sound.aired e);
+      got = λ e l. got_still (IsItem start (peer_of e) l before) (λ item. IsBooking (queues (peer_of e)) (booked (peer_of e) (book_step ∷ before)) l item.numbers item.body) (λ item b. book_still (peer_of e) l item.numbers item.body b) (gots e l) (sound.got e l);
     }
 
   -- ---- a frame more
 
   abbrev new_airing : EndId → ℕ → Lane → Numbers → Airing
-  new_airing x link lane n = record { link = link; lane = lane; numbers = n; retry = was_aired_at (lane_at (end_of a x) (lane_index lane)).aired n.pos; body = body_at (queued x (lane_index lane) before) n.pos }
+  new_airing x link lane n = record { link = link; lane = lane; numbers = n; retry = was_aired_at (lane_at (end_of a x) (lane_index lane)).aired n.pos; body = body_at (queued start x (lane_index lane) before) n.pos }
 
   record Framed (x : EndId) (link : ℕ) (lane : Lane) (n : Numbers) : Type 0 where
-    pub told : Told x (with_frame link (octets_of text (end_of a x).start (end_of a x).start.end (airing_of link lane n (lane_at (end_of a x) (lane_index lane)))) lane n (end_of a x)) (queues x) (booked x before) (airings x before ++ new_airing x link lane n ∷ []) (gots x) (key_of x)
-    pub aired : Aired (queues x) (booked x before) (airings x before ++ new_airing x link lane n ∷ [])
+    pub told : Told x (with_frame link (octets_of text (end_of a x).start (end_of a x).start.end (airing_of link lane n (lane_at (end_of a x) (lane_index lane)))) lane n (end_of a x)) (queues x) (booked x before) (airings start x before ++ new_airing x link lane n ∷ []) (gots x) (key_of x)
+    pub aired : Aired (queues x) (booked x before) (airings start x before ++ new_airing x link lane n ∷ [])
 
   framed_so : (x : EndId) (link : ℕ) (lane : Lane) (n : Numbers) → Contains (list_of (end_of a x).booked lane) n → IsLane lane → Framed x link lane n
   framed_so x link lane n there is_lane =
@@ -323,8 +364,8 @@ module _ (laws : NumberLaws) (windows : WindowLaws) (trans : Trans) (text : Seal
       ∙ ap (λ (e : EndId). octets_of text (start_of start x) e (airing_of link lane n (lane_at s k))) (own_end start is_start x)
       ∙ ap (λ (q : List (List ℕ)). octets_of text (start_of start x) x (record { link = link; lane = lane; numbers = n; retry = was_aired_at (lane_at s k).aired n.pos; body = body_at q n.pos })) ((sound.told x).lanes k (lane_within lane is_lane)).queue_is in
       record {
-        told = framed_tells text (start_of start x) x s (queues x) (booked x before) (airings x before) (gots x) (key_of x) (setup_at x) (sound.ends x) (sound.told x) new octets octets_are;
-        aired = aired_more (queues x) (booked x before) (airings x before) new (record { booking = booking_is x k n there; of_lane = is_lane }) (sound.aired x);
+        told = framed_tells text (start_of start x) x s (queues x) (booked x before) (airings start x before) (gots x) (key_of x) (setup_at x) (sound.ends x) (sound.told x) new octets octets_are;
+        aired = aired_more (queues x) (booked x before) (airings start x before) new (record { booking = booking_is x k n there; of_lane = is_lane }) (sound.aired x);
       }
 
   -- ---- put
@@ -339,8 +380,8 @@ module _ (laws : NumberLaws) (windows : WindowLaws) (trans : Trans) (text : Seal
     -- what a put with this answer leaves
     record Put (x : EndId) (held : Hand) (o : Outcome) : Type 0 where
       pub stays : IsEnd (after_put thread link (aired_octets text link held (end_of a x)) o (end_of a x))
-      pub told : Told x (after_put thread link (aired_octets text link held (end_of a x)) o (end_of a x)) (queues x) (booked x before) (airings_put x before link o (airings x before)) (gots x) (key_of x)
-      pub aired : Aired (queues x) (booked x before) (airings_put x before link o (airings x before))
+      pub told : Told x (after_put thread link (aired_octets text link held (end_of a x)) o (end_of a x)) (queues x) (booked x before) (airings_put start x before link o (airings start x before)) (gots x) (key_of x)
+      pub aired : Aired (queues x) (booked x before) (airings_put start x before link o (airings start x before))
 
     down : (x : EndId) (held : Hand) → hand_of (end_of a x).hands thread ≡ held → IsEnd (put_down thread held (end_of a x))
     down x hand.Empty is = sound.ends x
@@ -348,7 +389,7 @@ module _ (laws : NumberLaws) (windows : WindowLaws) (trans : Trans) (text : Seal
     down x (hand.Booking lane n) is = puts_down (end_of a x) thread lane n (sound.ends x) is
 
     down_told : (x : EndId) → Still x (put_down thread (hand_of (end_of a x).hands thread) (end_of a x))
-    down_told x = down_tells text (start_of start x) x (end_of a x) (queues x) (booked x before) (airings x before) (gots x) (key_of x) (setup_at x) (sound.told x) thread (hand_of (end_of a x).hands thread)
+    down_told x = down_tells text (start_of start x) x (end_of a x) (queues x) (booked x before) (airings start x before) (gots x) (key_of x) (setup_at x) (sound.told x) thread (hand_of (end_of a x).hands thread)
 
     sent : (x : EndId) (lane : Lane) (n : Numbers) → hand_of (end_of a x).hands thread ≡ hand.Booking lane n → Put x (hand.Booking lane n) (outcomes.Put lane n (was_aired_at (lane_at (end_of a x) (lane_index lane)).aired n.pos))
     sent x lane n held =
@@ -358,7 +399,7 @@ module _ (laws : NumberLaws) (windows : WindowLaws) (trans : Trans) (text : Seal
         let octets = octets_of text s.start s.start.end (airing_of link lane n (lane_at s (lane_index lane))) in
         record {
           stays = subst (λ (h : Hand). IsEnd (put_down thread h (with_frame link octets lane n s))) (sym held) (aired_so s thread lane n link octets (sound.ends x) held);
-          told = down_tells text (start_of start x) x (with_frame link octets lane n s) (queues x) (booked x before) (airings x before ++ new_airing x link lane n ∷ []) (gots x) (key_of x) (setup_at x) framed.told thread (hand_of s.hands thread);
+          told = down_tells text (start_of start x) x (with_frame link octets lane n s) (queues x) (booked x before) (airings start x before ++ new_airing x link lane n ∷ []) (gots x) (key_of x) (setup_at x) framed.told thread (hand_of s.hands thread);
           aired = framed.aired;
         }
 
@@ -368,8 +409,8 @@ module _ (laws : NumberLaws) (windows : WindowLaws) (trans : Trans) (text : Seal
     put x (hand.Booking lane n) is =
         put_cases (Put x (hand.Booking lane n)) lane n _ _ _
         (record { stays = down x (hand_of (end_of a x).hands thread) refl; told = down_told x; aired = sound.aired x })
-        (record { stays = down x (hand_of (end_of a x).hands thread) refl; told = down_told x; aired = sound.aired x })
-        (λ up. sent x lane n is)
+        (λ why. record { stays = down x (hand_of (end_of a x).hands thread) refl; told = down_told x; aired = sound.aired x })
+        (λ none. sent x lane n is)
 
     put_all : (x : EndId) → Puts x → Put x (hand_of (end_of a x).hands thread) outcome
     put_all x own = subst (Put x (hand_of (end_of a x).hands thread)) (sym own) (put x (hand_of (end_of a x).hands thread) refl)
@@ -377,8 +418,8 @@ module _ (laws : NumberLaws) (windows : WindowLaws) (trans : Trans) (text : Seal
     sound_put : IsAnswer text thread (commands.Put end link) a outcome → Sound text start (after text thread (commands.Put end link) outcome a) (step_of thread (commands.Put end link) outcome ∷ before)
     sound_put is = record {
       ends = λ e. by_end (λ end e b s. Puts end → IsEnd s) put_end (λ x own. (put_all x own).stays) (λ x y own. sound.ends y) end e is;
-      told = λ e. by_end (λ end e b s. Puts end → Told e s (queues e) (booked e before) (if b then airings_put e before link outcome (airings e before) else airings e before) (gots e) (key_of e)) put_end (λ x own. (put_all x own).told) (λ x y own. sound.told y) end e is;
-      aired = λ e. by_end (λ end e b s. Puts end → Aired (queues e) (booked e before) (if b then airings_put e before link outcome (airings e before) else airings e before)) put_end (λ x own. (put_all x own).aired) (λ x y own. sound.aired y) end e is;
+      told = λ e. by_end (λ end e b s. Puts end → Told e s (queues e) (booked e before) (if b then airings_put start e before link outcome (airings start e before) else airings start e before) (gots e) (key_of e)) put_end (λ x own. (put_all x own).told) (λ x y own. sound.told y) end e is;
+      aired = λ e. by_end (λ end e b s. Puts end → Aired (queues e) (booked e before) (if b then airings_put start e before link outcome (airings start e before) else airings start e before)) put_end (λ x own. (put_all x own).aired) (λ x y own. sound.aired y) end e is;
       got = sound.got;
     }
 
@@ -397,8 +438,8 @@ module _ (laws : NumberLaws) (windows : WindowLaws) (trans : Trans) (text : Seal
     -- what an airing of a booking that was named leaves, with this answer
     record Again (x : EndId) (found : Option Numbers) (o : Outcome) : Type 0 where
       pub stays : IsEnd (after_again link lane (octets_again text link lane found (end_of a x)) o (end_of a x))
-      pub told : Told x (after_again link lane (octets_again text link lane found (end_of a x)) o (end_of a x)) (queues x) (booked x before) (airings_again x before link lane o (airings x before)) (gots x) (key_of x)
-      pub aired : Aired (queues x) (booked x before) (airings_again x before link lane o (airings x before))
+      pub told : Told x (after_again link lane (octets_again text link lane found (end_of a x)) o (end_of a x)) (queues x) (booked x before) (airings_again start x before link lane o (airings start x before)) (gots x) (key_of x)
+      pub aired : Aired (queues x) (booked x before) (airings_again start x before link lane o (airings start x before))
 
     sent_again : (x : EndId) (n : Numbers) → found_at x ≡ Some n → Again x (Some n) (outcomes.PutAgain n (was_aired_at (lane_at (end_of a x) (lane_index lane)).aired n.pos))
     sent_again x n found =
@@ -410,8 +451,8 @@ module _ (laws : NumberLaws) (windows : WindowLaws) (trans : Trans) (text : Seal
     again x (Some n) is =
         again_cases (Again x (Some n)) n _ _ _
         (record { stays = sound.ends x; told = sound.told x; aired = sound.aired x })
-        (record { stays = sound.ends x; told = sound.told x; aired = sound.aired x })
-        (λ up. sent_again x n is)
+        (λ why. record { stays = sound.ends x; told = sound.told x; aired = sound.aired x })
+        (λ none. sent_again x n is)
 
     again_all : (x : EndId) → Agains x → Again x (found_at x) outcome
     again_all x own = subst (Again x (found_at x)) (sym own) (again x (found_at x) refl)
@@ -419,18 +460,26 @@ module _ (laws : NumberLaws) (windows : WindowLaws) (trans : Trans) (text : Seal
     sound_again : IsAnswer text thread (commands.Again end link lane pos) a outcome → Sound text start (after text thread (commands.Again end link lane pos) outcome a) (step_of thread (commands.Again end link lane pos) outcome ∷ before)
     sound_again is = record {
       ends = λ e. by_end (λ end e b s. Agains end → IsEnd s) again_end (λ x own. (again_all x own).stays) (λ x y own. sound.ends y) end e is;
-      told = λ e. by_end (λ end e b s. Agains end → Told e s (queues e) (booked e before) (if b then airings_again e before link lane outcome (airings e before) else airings e before) (gots e) (key_of e)) again_end (λ x own. (again_all x own).told) (λ x y own. sound.told y) end e is;
-      aired = λ e. by_end (λ end e b s. Agains end → Aired (queues e) (booked e before) (if b then airings_again e before link lane outcome (airings e before) else airings e before)) again_end (λ x own. (again_all x own).aired) (λ x y own. sound.aired y) end e is;
+      told = λ e. by_end (λ end e b s. Agains end → Told e s (queues e) (booked e before) (if b then airings_again start e before link lane outcome (airings start e before) else airings start e before) (gots e) (key_of e)) again_end (λ x own. (again_all x own).told) (λ x y own. sound.told y) end e is;
+      aired = λ e. by_end (λ end e b s. Agains end → Aired (queues e) (booked e before) (if b then airings_again start e before link lane outcome (airings start e before) else airings start e before)) again_end (λ x own. (again_all x own).aired) (λ x y own. sound.aired y) end e is;
       got = sound.got;
     }
 
   -- ---- frames that are heard
 
+  -- the bodies of management that the peer of an end made
+  abbrev peers : EndId → List (List ℕ)
+  peers x = (terms start (peer_of x) before).bodies
+
+  -- the words of the end, with other terms, and with other for what it received
+  abbrev Agreed : EndId → Terms → EndState → (ℕ → Receiving) → Type 0
+  Agreed x t s got = Tells text (start_of start x) x s (queue_by t.bodies (λ l. msdus x l before)) (booked x before) (airings start x before) got (key_of x) t.setup
+
   -- what a frame that was heard with this answer leaves
   record Heard (x : EndId) (o : Outcome) : Type 0 where
     pub stays : IsEnd (after_heard (end_of a (peer_of x)) o (end_of a x))
-    pub told : Told x (after_heard (end_of a (peer_of x)) o (end_of a x)) (queues x) (booked x before) (airings x before) (λ l. received (start_of start x) x l before o (gots x l)) (key_of x)
-    pub got : (l : ℕ) → Got (IsItem (peer_of x) l before) (received (start_of start x) x l before o (gots x l))
+    pub told : Agreed x (terms_heard (peers x) o (terms start x before)) (after_heard (end_of a (peer_of x)) o (end_of a x)) (λ l. received start x l before o (gots x l))
+    pub got : (l : ℕ) → Got (IsItem start (peer_of x) l before) (received start x l before o (gots x l))
 
   quiet : (x : EndId) (o : Outcome) → IsPlain o → Heard x o
   quiet x (outcomes.Stored lane number n up) plain = absurd plain
@@ -447,11 +496,35 @@ module _ (laws : NumberLaws) (windows : WindowLaws) (trans : Trans) (text : Seal
     size = receive_size s.setup (lane_index lane)
 
     got_at : (l : ℕ) (b : Bool) → at_place lane l ≡ b
-        → Got (IsItem (peer_of x) l before) (if b then taken (arrived (gots x l).window number (receive_size (setup_at x) l) (record { numbers = n; body = body_at (queued (peer_of x) l before) n.pos })) (gots x l) else gots x l)
+        → Got (IsItem start (peer_of x) l before) (if b then taken (arrived (gots x l).window number (receive_size (setup_at x) l) (record { numbers = n; body = body_at (queued start (peer_of x) l before) n.pos })) (gots x l) else gots x l)
     got_at l true at =
-        got_taken (IsItem (peer_of x) l before) trans (gots x l) number (receive_size (setup_at x) l) (record { numbers = n; body = body_at (queued (peer_of x) l before) n.pos })
+        got_taken (IsItem start (peer_of x) l before) trans (gots x l) number (receive_size (setup_at x) l) (record { numbers = n; body = body_at (queued start (peer_of x) l before) n.pos })
         (booking_is (peer_of x) l n (subst (λ (ns : List Numbers). Contains ns n) (same_list sender.booked lane l at) there)) (sound.got x l)
     got_at l false at = sound.got x l
+
+    -- a booking of management is of a body that an end makes
+    body_made : (at : Lane) → Contains (list_of sender.booked at) n → IsBodyOn at (body_at (lane_at sender (lane_index at)).queue n.pos)
+    body_made (lanes.Tid tid) is = tt
+    body_made lanes.Management is = (sound.ends (peer_of x)).managed.made n.pos ((sound.ends (peer_of x)).sender.queued management n is)
+
+    abbrev got_then : List ℕ → ℕ → Receiving
+    got_then up l = received start x l before (outcomes.Stored lane number n up) (gots x l)
+
+    -- a body that is released is the same at the end and in the words, where that tells
+    abbrev IsSame : Lane → List ℕ → List ℕ → Type 0
+    IsSame (lanes.Tid tid) body word = Unit {0}
+    IsSame lanes.Management body word = body ≡ word
+
+    same_word : (at : Lane) → body_at (lane_at sender (lane_index at)).queue n.pos ≡ body_at (queued start (peer_of x) (lane_index at) before) n.pos → IsSame at (body_at (lane_at sender (lane_index at)).queue n.pos) (body_at (peers x) n.pos)
+    same_word (lanes.Tid tid) same = tt
+    same_word lanes.Management same = same
+
+    -- it acts
+    told_so : (at : Lane) (body word : List ℕ) (t : EndState) (got : ℕ → Receiving) → IsEnd t → IsSame at body word → Agreed x (terms start x before) t got → Agreed x (told_on at word (terms start x before)) (after_told at body t) got
+    told_so (lanes.Tid tid) body word t got is same h = h
+    told_so lanes.Management body word t got is same h =
+        subst (λ (w : List ℕ). Agreed x (told_on lanes.Management w (terms start x before)) (after_told lanes.Management body t) got) same
+        (made_tells text (start_of start x) x t (terms start x before).bodies (λ l. msdus x l before) (booked x before) (airings start x before) got (key_of x) (setup_at x) is h (acted (message_of body)))
 
     by_come : (b : Bool) → is_above (last_of s.last lane) n.key n.pn ≡ b → (come : Arrived Arrival) → arrived (lane_at s (lane_index lane)).window number size (arrival_of sender lane n) ≡ come
         → Heard x (if b then hear_arrived lane number n (last_of s.last lane) come else outcomes.Replay)
@@ -459,14 +532,18 @@ module _ (laws : NumberLaws) (windows : WindowLaws) (trans : Trans) (text : Seal
     by_come true above Old is = quiet x outcomes.OldNumber tt
     by_come true above Doubled is = quiet x outcomes.Double tt
     by_come true above (Stored moved) is =
-        let leaves : after_hear lane number size (arrival_of sender lane n) s ≡ with_moved lane moved s =
-        ap (λ (b : Bool). if b then after_arrived lane (arrived (lane_at s (lane_index lane)).window number size (arrival_of sender lane n)) s else s) above ∙ ap (λ (c : Arrived Arrival). after_arrived lane c s) is in
+        let item = arrival_of sender lane n in
+        let up = (let_up (last_of s.last lane) moved.up).positions in
+        let leaves : after_hear lane number size item s ≡ after_told lane item.body (with_moved lane moved s) =
+        ap (λ (b : Bool). if b then after_arrived lane item.body (arrived (lane_at s (lane_index lane)).window number size item) s else s) above ∙ ap (λ (c : Arrived Arrival). after_arrived lane item.body c s) is in
         let lt : lane_index lane < lane_count = omega (arith, contains_within sender.booked (lane_index lane) n there, (sound.ends (peer_of x)).sender.nine) in
-        let body : body_at (lane_at sender (lane_index lane)).queue n.pos ≡ body_at (queued (peer_of x) (lane_index lane) before) n.pos = ap (λ (q : List (List ℕ)). body_at q n.pos) ((sound.told (peer_of x)).lanes (lane_index lane) lt).queue_is in
+        let body : body_at (lane_at sender (lane_index lane)).queue n.pos ≡ body_at (queued start (peer_of x) (lane_index lane) before) n.pos = ap (λ (q : List (List ℕ)). body_at q n.pos) ((sound.told (peer_of x)).lanes (lane_index lane) lt).queue_is in
+        let moved_is : Agreed x (terms start x before) (with_moved lane moved s) (got_then up) =
+        moved_tells text (start_of start x) x s (queues x) (booked x before) (airings start x before) (gots x) (key_of x) (setup_at x) (sound.ends x) (sound.told x) lane number item moved is (queues (peer_of x)) body in
         record {
-          stays = hear_kept s lane number size (arrival_of sender lane n) (sound.ends x);
-          told = subst (λ (t : EndState). Told x t (queues x) (booked x before) (airings x before) (λ l. received (start_of start x) x l before (outcomes.Stored lane number n (let_up (last_of s.last lane) moved.up).positions) (gots x l)) (key_of x)) (sym leaves)
-              (moved_tells text (start_of start x) x s (queues x) (booked x before) (airings x before) (gots x) (key_of x) (setup_at x) (sound.ends x) (sound.told x) lane number (arrival_of sender lane n) moved is (queues (peer_of x)) body);
+          stays = hear_kept messages s lane number item (sound.ends x) (body_made lane there);
+          told = subst (λ (t : EndState). Agreed x (terms_heard (peers x) (outcomes.Stored lane number n up) (terms start x before)) t (got_then up)) (sym leaves)
+              (told_so lane item.body (body_at (peers x) n.pos) (with_moved lane moved s) (got_then up) (stored_kept s lane number item moved (sound.ends x) is) (same_word lane body) moved_is);
           got = λ l. got_at l (at_place lane l) refl;
         }
 
@@ -500,11 +577,11 @@ module _ (laws : NumberLaws) (windows : WindowLaws) (trans : Trans) (text : Seal
     heard_ends : Hears end → (e : EndId) → IsEnd (end_of (with_end end (heard_end end) a) e)
     heard_ends is e = by_end (λ end e b s. Hears end → IsEnd s) heard_end (λ x own. (heard_all x own).stays) (λ x y own. sound.ends y) end e is
 
-    heard_told : Hears end → (e : EndId) → Told e (end_of (with_end end (heard_end end) a) e) (queues e) (booked e before) (airings e before) (λ l. if same_end end e then received (start_of start e) e l before outcome (gots e l) else gots e l) (key_of e)
-    heard_told is e = by_end (λ end e b s. Hears end → Told e s (queues e) (booked e before) (airings e before) (λ l. if b then received (start_of start e) e l before outcome (gots e l) else gots e l) (key_of e)) heard_end (λ x own. (heard_all x own).told) (λ x y own. sound.told y) end e is
+    heard_told : Hears end → (e : EndId) → Agreed e (if same_end end e then terms_heard (peers e) outcome (terms start e before) else terms start e before) (end_of (with_end end (heard_end end) a) e) (λ l. if same_end end e then received start e l before outcome (gots e l) else gots e l)
+    heard_told is e = by_end (λ end e b s. Hears end → Agreed e (if b then terms_heard (peers e) outcome (terms start e before) else terms start e before) s (λ l. if b then received start e l before outcome (gots e l) else gots e l)) heard_end (λ x own. (heard_all x own).told) (λ x y own. sound.told y) end e is
 
-    heard_got : Hears end → (e : EndId) (l : ℕ) → Got (IsItem (peer_of e) l before) (if same_end end e then received (start_of start e) e l before outcome (gots e l) else gots e l)
-    heard_got is e = by_end (λ end e b s. Hears end → (l : ℕ) → Got (IsItem (peer_of e) l before) (if b then received (start_of start e) e l before outcome (gots e l) else gots e l)) heard_end (λ x own. (heard_all x own).got) (λ x y own. sound.got y) end e is
+    heard_got : Hears end → (e : EndId) (l : ℕ) → Got (IsItem start (peer_of e) l before) (if same_end end e then received start e l before outcome (gots e l) else gots e l)
+    heard_got is e = by_end (λ end e b s. Hears end → (l : ℕ) → Got (IsItem start (peer_of e) l before) (if b then received start e l before outcome (gots e l) else gots e l)) heard_end (λ x own. (heard_all x own).got) (λ x y own. sound.got y) end e is
 
   abbrev SoundThen : ℕ → Command → Outcome → Type 0
   SoundThen thread command outcome = IsAnswer text thread command a outcome → Sound text start (after text thread command outcome a) (step_of thread command outcome ∷ before)
@@ -512,17 +589,26 @@ module _ (laws : NumberLaws) (windows : WindowLaws) (trans : Trans) (text : Seal
   sound_deliver : (thread : ℕ) (end : EndId) (link : ℕ) (nth : Option ℕ) (outcome : Outcome) → SoundThen thread (commands.Deliver end link nth) outcome
   sound_deliver thread end link nth outcome is =
       let octets = λ (x : EndId). octets_heard text (commands.Deliver x link nth) a in
-      record { ends = heard_ends end link octets outcome is; told = heard_told end link octets outcome is; aired = sound.aired; got = heard_got end link octets outcome is }
+      let step = step_of thread (commands.Deliver end link nth) outcome in
+      record { ends = heard_ends end link octets outcome is; told = heard_told end link octets outcome is; aired = aired_longer step; got = λ e l. still_got step e l _ (heard_got end link octets outcome is e l) }
 
   sound_alter : (thread : ℕ) (end : EndId) (link : ℕ) (nth : Option ℕ) (number : ℕ) (outcome : Outcome) → SoundThen thread (commands.Alter end link nth number) outcome
   sound_alter thread end link nth number outcome is =
       let octets = λ (x : EndId). octets_heard text (commands.Alter x link nth number) a in
-      record { ends = heard_ends end link octets outcome is; told = heard_told end link octets outcome is; aired = sound.aired; got = heard_got end link octets outcome is }
+      let step = step_of thread (commands.Alter end link nth number) outcome in
+      record { ends = heard_ends end link octets outcome is; told = heard_told end link octets outcome is; aired = aired_longer step; got = λ e l. still_got step e l _ (heard_got end link octets outcome is e l) }
 
   sound_forge : (thread : ℕ) (end : EndId) (link : ℕ) (lane : Lane) (key pn number : ℕ) (body : List ℕ) (outcome : Outcome) → SoundThen thread (commands.Forge end link lane key pn number body) outcome
   sound_forge thread end link lane key pn number body outcome is =
       let octets = λ (x : EndId). octets_heard text (commands.Forge x link lane key pn number body) a in
-      record { ends = heard_ends end link octets outcome is; told = heard_told end link octets outcome is; aired = sound.aired; got = heard_got end link octets outcome is }
+      let step = step_of thread (commands.Forge end link lane key pn number body) outcome in
+      record { ends = heard_ends end link octets outcome is; told = heard_told end link octets outcome is; aired = aired_longer step; got = λ e l. still_got step e l _ (heard_got end link octets outcome is e l) }
+
+  sound_inject : (thread : ℕ) (end : EndId) (link : ℕ) (injected : List ℕ) (outcome : Outcome) → SoundThen thread (commands.Inject end link injected) outcome
+  sound_inject thread end link injected outcome is =
+      let octets = λ (x : EndId). octets_heard text (commands.Inject x link injected) a in
+      let step = step_of thread (commands.Inject end link injected) outcome in
+      record { ends = heard_ends end link octets outcome is; told = heard_told end link octets outcome is; aired = aired_longer step; got = λ e l. still_got step e l _ (heard_got end link octets outcome is e l) }
 
   -- ---- acknowledgements
 
@@ -548,7 +634,7 @@ module _ (laws : NumberLaws) (windows : WindowLaws) (trans : Trans) (text : Seal
 
     acked_told : (x : EndId) (ack : Ack) (o : Option Acked) → Still x (after_acked ack o (end_of a x))
     acked_told x ack None = sound.told x
-    acked_told x ack (Some acked) = sending_tells text (start_of start x) x (end_of a x) (queues x) (booked x before) (airings x before) (gots x) (key_of x) (setup_at x) (sound.ends x) (sound.told x) (lane_index ack.lane) acked.sending (end_of a x).hands
+    acked_told x ack (Some acked) = sending_tells text (start_of start x) x (end_of a x) (queues x) (booked x before) (airings start x before) (gots x) (key_of x) (setup_at x) (sound.ends x) (sound.told x) (lane_index ack.lane) acked.sending (end_of a x).hands
 
     taken_tells : (x : EndId) (named : Option Ack) → Still x (after_taken named (end_of a x))
     taken_tells x None = sound.told x
@@ -577,7 +663,7 @@ module _ (laws : NumberLaws) (windows : WindowLaws) (trans : Trans) (text : Seal
 
     given_told : (x : EndId) (given : Result Sending MoveRefusal) → Still x (after_given lane given (end_of a x))
     given_told x (Err why) = sound.told x
-    given_told x (Ok sending) = sending_tells text (start_of start x) x (end_of a x) (queues x) (booked x before) (airings x before) (gots x) (key_of x) (setup_at x) (sound.ends x) (sound.told x) (lane_index lane) sending (end_of a x).hands
+    given_told x (Ok sending) = sending_tells text (start_of start x) x (end_of a x) (queues x) (booked x before) (airings start x before) (gots x) (key_of x) (setup_at x) (sound.ends x) (sound.told x) (lane_index lane) sending (end_of a x).hands
 
     sound_bar_out : Sound text start (after text thread (commands.BarOut end lane to) outcome a) (step_of thread (commands.BarOut end lane to) outcome ∷ before)
     sound_bar_out = record {
@@ -597,18 +683,18 @@ module _ (laws : NumberLaws) (windows : WindowLaws) (trans : Trans) (text : Seal
     -- what a request leaves, with this answer
     record Moves (x : EndId) (s : EndState) (o : Outcome) : Type 0 where
       pub stays : IsEnd s
-      pub told : Told x s (queues x) (booked x before) (airings x before) (λ l. moved_to l o (gots x l)) (key_of x)
-      pub got : (l : ℕ) → Got (IsItem (peer_of x) l before) (moved_to l o (gots x l))
+      pub told : Told x s (queues x) (booked x before) (airings start x before) (λ l. moved_to l o (gots x l)) (key_of x)
+      pub got : (l : ℕ) → Got (IsItem start (peer_of x) l before) (moved_to l o (gots x l))
 
-    got_asked_at : (x : EndId) (bar : Bar) (l : ℕ) (b : Bool) → Got (IsItem (peer_of x) l before) (if b then passed_if (requested (gots x l).window bar.start) (gots x l) else gots x l)
-    got_asked_at x bar l true = got_asked (IsItem (peer_of x) l before) trans (gots x l) bar.start (sound.got x l)
+    got_asked_at : (x : EndId) (bar : Bar) (l : ℕ) (b : Bool) → Got (IsItem start (peer_of x) l before) (if b then passed_if (requested (gots x l).window bar.start) (gots x l) else gots x l)
+    got_asked_at x bar l true = got_asked (IsItem start (peer_of x) l before) trans (gots x l) bar.start (sound.got x l)
     got_asked_at x bar l false = sound.got x l
 
     moved_so : (x : EndId) (bar : Bar) (moved : Option (Moved Arrival)) → moved_by bar (end_of a x) ≡ moved → Moves x (after_moved bar.lane moved (end_of a x)) (moved_answer bar moved (end_of a x))
     moved_so x bar None is = record { stays = sound.ends x; told = sound.told x; got = sound.got x }
     moved_so x bar (Some moved) is = record {
-      stays = moved_kept bar.lane (Some moved) (end_of a x) (sound.ends x);
-      told = asked_tells text (start_of start x) x (end_of a x) (queues x) (booked x before) (airings x before) (gots x) (key_of x) (setup_at x) (sound.ends x) (sound.told x) bar moved is;
+      stays = subst (λ (m : Option (Moved Arrival)). IsEnd (after_moved bar.lane m (end_of a x))) is (moved_kept bar (end_of a x) (sound.ends x));
+      told = asked_tells text (start_of start x) x (end_of a x) (queues x) (booked x before) (airings start x before) (gots x) (key_of x) (setup_at x) (sound.ends x) (sound.told x) bar moved is;
       got = λ l. got_asked_at x bar l (at_place bar.lane l);
     }
 
@@ -622,58 +708,98 @@ module _ (laws : NumberLaws) (windows : WindowLaws) (trans : Trans) (text : Seal
     sound_bar_in : SoundThen thread (commands.BarIn end nth) outcome
     sound_bar_in is = record {
       ends = λ e. by_end (λ end e b s. Asks end → IsEnd s) asked_end (λ x own. (asked_all x own).stays) (λ x y own. sound.ends y) end e is;
-      told = λ e. by_end (λ end e b s. Asks end → Told e s (queues e) (booked e before) (airings e before) (λ l. if b then moved_to l outcome (gots e l) else gots e l) (key_of e)) asked_end (λ x own. (asked_all x own).told) (λ x y own. sound.told y) end e is;
+      told = λ e. by_end (λ end e b s. Asks end → Told e s (queues e) (booked e before) (airings start e before) (λ l. if b then moved_to l outcome (gots e l) else gots e l) (key_of e)) asked_end (λ x own. (asked_all x own).told) (λ x y own. sound.told y) end e is;
       aired = sound.aired;
-      got = λ e. by_end (λ end e b s. Asks end → (l : ℕ) → Got (IsItem (peer_of e) l before) (if b then moved_to l outcome (gots e l) else gots e l)) asked_end (λ x own. (asked_all x own).got) (λ x y own. sound.got y) end e is;
+      got = λ e. by_end (λ end e b s. Asks end → (l : ℕ) → Got (IsItem start (peer_of e) l before) (if b then moved_to l outcome (gots e l) else gots e l)) asked_end (λ x own. (asked_all x own).got) (λ x y own. sound.got y) end e is;
     }
 
-  -- ---- keys
+  -- ---- what machines make
+
+  module _ (thread : ℕ) (end : EndId) (step : Step) (f : Setup → Made) where
+    abbrev made_end : EndId → EndState
+    made_end x = with_made (f (end_of a x).setup) (end_of a x)
+
+    abbrev made_terms : EndId → Terms
+    made_terms x = terms_made (f (setup_at x)) (terms start x before).bodies
+
+    made_ends : IsMade (end_of a end).setup (f (end_of a end).setup) → (e : EndId) → IsEnd (end_of (with_end end (made_end end) a) e)
+    made_ends good e = by_end (λ end e b s. IsMade (end_of a end).setup (f (end_of a end).setup) → IsEnd s) made_end (λ x own. made_kept messages (end_of a x) (f (end_of a x).setup) (sound.ends x) own) (λ x y own. sound.ends y) end e good
+
+    made_told : (e : EndId) → Agreed e (if same_end end e then made_terms e else terms start e before) (end_of (with_end end (made_end end) a) e) (gots e)
+    made_told e =
+        by_end (λ end e b s. Agreed e (if b then made_terms e else terms start e before) s (gots e)) made_end
+        (λ x. made_tells text (start_of start x) x (end_of a x) (terms start x before).bodies (λ l. msdus x l before) (booked x before) (airings start x before) (gots x) (key_of x) (setup_at x) (sound.ends x) (sound.told x) f)
+        (λ x y. sound.told y) end e
 
   module _ (thread : ℕ) (end : EndId) (outcome : Outcome) where
     sound_install : Sound text start (after text thread (commands.Install end) outcome a) (step_of thread (commands.Install end) outcome ∷ before)
-    sound_install = record {
-      ends = by_end (λ end e b s. IsEnd s) (λ x. after_install outcome (end_of a x)) (λ x. install_kept (end_of a x) outcome (sound.ends x)) (λ x y. sound.ends y) end;
-      told = by_end (λ end e b s. Tells text (start_of start e) e s (queues e) (booked e before) (airings e before) (gots e) (key_of e) (if b then installed outcome (setup_at e) else setup_at e)) (λ x. after_install outcome (end_of a x))
-          (λ x. install_tells text (start_of start x) x (end_of a x) (queues x) (booked x before) (airings x before) (gots x) (key_of x) (setup_at x) (sound.ends x) (sound.told x) outcome) (λ x y. sound.told y) end;
-      aired = sound.aired;
-      got = sound.got;
-    }
+    sound_install =
+        let step = step_of thread (commands.Install end) outcome in
+        record { ends = made_ends thread end step (installed outcome) (installed_made outcome (end_of a end).setup (sound.ends end).token_fits); told = made_told thread end step (installed outcome); aired = aired_longer step; got = got_longer step }
 
+    sound_power : (link : ℕ) (on : Bool) → Sound text start (after text thread (commands.Power end link on) outcome a) (step_of thread (commands.Power end link on) outcome ∷ before)
+    sound_power link on =
+        let step = step_of thread (commands.Power end link on) outcome in
+        record { ends = made_ends thread end step (switched link on) (switched_made link on (end_of a end).setup (sound.ends end).token_fits); told = made_told thread end step (switched link on); aired = aired_longer step; got = got_longer step }
+
+    sound_map_ask : (entries : List MapEntry) → AreEntries entries → SoundThen thread (commands.MapAsk end entries) outcome
+    sound_map_ask entries good is =
+        let step = step_of thread (commands.MapAsk end entries) outcome in
+        record { ends = made_ends thread end step (map_asked entries outcome) (asked_made entries outcome (end_of a end).setup good is (sound.ends end).token_fits); told = made_told thread end step (map_asked entries outcome); aired = aired_longer step; got = got_longer step }
+
+    sound_map_teardown : Sound text start (after text thread (commands.MapTeardown end) outcome a) (step_of thread (commands.MapTeardown end) outcome ∷ before)
+    sound_map_teardown =
+        let step = step_of thread (commands.MapTeardown end) outcome in
+        record { ends = made_ends thread end step (map_torn outcome) (torn_made outcome (end_of a end).setup (sound.ends end).token_fits); told = made_told thread end step (map_torn outcome); aired = aired_longer step; got = got_longer step }
+
+    sound_give_up : (what : Machine) → Sound text start (after text thread (commands.GiveUp end what) outcome a) (step_of thread (commands.GiveUp end what) outcome ∷ before)
+    sound_give_up what =
+        let step = step_of thread (commands.GiveUp end what) outcome in
+        record { ends = made_ends thread end step (given what outcome) (given_made what outcome (end_of a end).setup (sound.ends end).token_fits); told = made_told thread end step (given what outcome); aired = aired_longer step; got = got_longer step }
+
+  -- ---- a turn of key
+
+  module _ (thread : ℕ) (end : EndId) (outcome : Outcome) where
     abbrev Turns : EndId → Type 0
     Turns x = outcome ≡ turn_answer (end_of a x).numbers
 
     sound_turn : IsAnswer text thread (commands.Turn end) a outcome → Sound text start (after text thread (commands.Turn end) outcome a) (step_of thread (commands.Turn end) outcome ∷ before)
     sound_turn is = record {
       ends = by_end (λ end e b s. IsEnd s) (λ x. after_turn outcome (end_of a x)) (λ x. turn_kept (end_of a x) outcome (sound.ends x)) (λ x y. sound.ends y) end;
-      told = λ e. by_end (λ end e b s. Turns end → Told e s (queues e) (booked e before) (airings e before) (gots e) (if b then key_turned outcome (key_of e) else key_of e)) (λ x. after_turn outcome (end_of a x))
-          (λ x own. turn_tells text (start_of start x) x (end_of a x) (queues x) (booked x before) (airings x before) (gots x) (key_of x) (setup_at x) (sound.ends x) (sound.told x) outcome own) (λ x y own. sound.told y) end e is;
+      told = λ e. by_end (λ end e b s. Turns end → Told e s (queues e) (booked e before) (airings start e before) (gots e) (if b then key_turned outcome (key_of e) else key_of e)) (λ x. after_turn outcome (end_of a x))
+          (λ x own. turn_tells text (start_of start x) x (end_of a x) (queues x) (booked x before) (airings start x before) (gots x) (key_of x) (setup_at x) (sound.ends x) (sound.told x) outcome own) (λ x y own. sound.told y) end e is;
       aired = sound.aired;
       got = sound.got;
     }
 
-  pub sound_then : (thread : ℕ) (command : Command) (outcome : Outcome) → Fits start command → IsAnswer text thread command a outcome → Sound text start (after text thread command outcome a) (step_of thread command outcome ∷ before)
-  sound_then thread (commands.Queue end tid body) outcome fits is = sound_queue thread end tid body outcome fits
-  sound_then thread (commands.Reserve end lane) outcome fits is = sound_reserve thread end lane outcome fits is
-  sound_then thread (commands.Book end) outcome fits is = sound_book thread end outcome is
-  sound_then thread (commands.Put end link) outcome fits is = sound_put thread end link outcome is
-  sound_then thread (commands.Deliver end link nth) outcome fits is = sound_deliver thread end link nth outcome is
-  sound_then thread (commands.Again end link lane pos) outcome fits is = sound_again thread end link lane pos outcome fits.1 is
-  sound_then thread (commands.Alter end link nth number) outcome fits is = sound_alter thread end link nth number outcome is
-  sound_then thread (commands.Forge end link lane key pn number body) outcome fits is = sound_forge thread end link lane key pn number body outcome is
-  sound_then thread (commands.BarOut end lane to) outcome fits is = sound_bar_out thread end lane to outcome
-  sound_then thread (commands.BarIn end nth) outcome fits is = sound_bar_in thread end nth outcome is
-  sound_then thread (commands.AckOut end lane) outcome fits is = sound_ack_out thread end lane outcome
-  sound_then thread (commands.AckIn end nth) outcome fits is = sound_ack_in thread end nth outcome
-  sound_then thread (commands.Install end) outcome fits is = sound_install thread end outcome
-  sound_then thread (commands.Turn end) outcome fits is = sound_turn thread end outcome is
+  pub sound_then : (thread : ℕ) (command : Command) (outcome : Outcome) → Fits start command → InRanges command → IsAnswer text thread command a outcome → Sound text start (after text thread command outcome a) (step_of thread command outcome ∷ before)
+  sound_then thread (commands.Queue end tid body) outcome fits ranges is = sound_queue thread end tid body outcome fits
+  sound_then thread (commands.Reserve end lane) outcome fits ranges is = sound_reserve thread end lane outcome fits is
+  sound_then thread (commands.Book end) outcome fits ranges is = sound_book thread end outcome is
+  sound_then thread (commands.Put end link) outcome fits ranges is = sound_put thread end link outcome is
+  sound_then thread (commands.Deliver end link nth) outcome fits ranges is = sound_deliver thread end link nth outcome is
+  sound_then thread (commands.Again end link lane pos) outcome fits ranges is = sound_again thread end link lane pos outcome fits.1 is
+  sound_then thread (commands.Alter end link nth number) outcome fits ranges is = sound_alter thread end link nth number outcome is
+  sound_then thread (commands.Forge end link lane key pn number body) outcome fits ranges is = sound_forge thread end link lane key pn number body outcome is
+  sound_then thread (commands.BarOut end lane to) outcome fits ranges is = sound_bar_out thread end lane to outcome
+  sound_then thread (commands.BarIn end nth) outcome fits ranges is = sound_bar_in thread end nth outcome is
+  sound_then thread (commands.AckOut end lane) outcome fits ranges is = sound_ack_out thread end lane outcome
+  sound_then thread (commands.AckIn end nth) outcome fits ranges is = sound_ack_in thread end nth outcome
+  sound_then thread (commands.Install end) outcome fits ranges is = sound_install thread end outcome
+  sound_then thread (commands.Turn end) outcome fits ranges is = sound_turn thread end outcome is
+  sound_then thread (commands.Inject end link octets) outcome fits ranges is = sound_inject thread end link octets outcome is
+  sound_then thread (commands.Power end link on) outcome fits ranges is = sound_power thread end outcome link on
+  sound_then thread (commands.MapAsk end entries) outcome fits ranges is = sound_map_ask thread end outcome entries ranges is
+  sound_then thread (commands.MapTeardown end) outcome fits ranges is = sound_map_teardown thread end outcome
+  sound_then thread (commands.GiveUp end what) outcome fits ranges is = sound_give_up thread end outcome what
 
 pub legal_start : (text : Sealing) (start : Start) (steps : List Step) → Legal text start steps → IsStart start
 legal_start text start [] legal = legal
 legal_start text start (step ∷ before) legal = legal_start text start before legal.0
 
 -- each legal history is sound
-pub all_sound : NumberLaws → WindowLaws → Trans → (text : Sealing) (start : Start) (steps : List Step) → Legal text start steps → Sound text start (state_of text start steps) steps
+pub all_sound : NumberLaws → WindowLaws → MessageLaws → Trans → (text : Sealing) (start : Start) (steps : List Step) → Legal text start steps → Sound text start (state_of text start steps) steps
 unfolding state_of
-all_sound laws windows trans text start [] legal = sound_start text start legal
-all_sound laws windows trans text start (step ∷ before) legal =
-    sound_then laws windows trans text start (legal_start text start before legal.0) (state_of text start before) before (all_sound laws windows trans text start before legal.0) step.thread step.command step.outcome legal.1.fits legal.1.answer
+all_sound laws windows messages trans text start [] legal = sound_start text start legal
+all_sound laws windows messages trans text start (step ∷ before) legal =
+    sound_then laws windows messages trans text start (legal_start text start before legal.0) (state_of text start before) before (all_sound laws windows messages trans text start before legal.0) step.thread step.command step.outcome legal.1.fits legal.1.ranges legal.1.answer

@@ -25,9 +25,12 @@ use Rattle.wl_history.specs.Answers.{last_key, turn_answer}
 use Rattle.wl_history.specs.declared.setup.Setup.{Setup}
 use Rattle.wl_history.specs.declared.start.EndStart.{EndStart}
 use Rattle.wl_history.specs.Ends.{receive_size}
-use Rattle.wl_history.specs.Words.{body_at, installed, key_turned, Airing, airings_on, was_aired, Receiving, last_pair, is_new, release, release_all, passed, taken, passed_if}
+use Rattle.wl_message.specs.declared.message.Message.{Message}
+use Rattle.wl_message.specs.Message.{message_octets}
+use Rattle.wl_history.specs.Machines.{Made}
+use Rattle.wl_history.specs.Words.{body_at, bodies_with, queue_by, key_turned, Airing, airings_on, was_aired, Receiving, last_pair, is_new, release, release_all, passed, taken, passed_if}
 use Rattle.wl_history.specs.Hearing.{octets_of}
-use Rattle.wl_history.specs.EndState.{EndState, IsEnd, lane_at, no_lane, frames_on, with_lane, with_frame, put_down, was_aired_at, aired_at, LetUp, pair_of, before_it, let_up, with_moved, moved_by, after_queue, after_book, after_install, after_turn}
+use Rattle.wl_history.specs.EndState.{EndState, IsEnd, lane_at, no_lane, frames_on, with_lane, with_frame, put_down, was_aired_at, aired_at, LetUp, pair_of, before_it, let_up, with_moved, moved_by, after_queue, after_book, after_turn, management, with_message, with_made}
 use Rattle.wl_history.specs.Stands.{positions_of, octets_all, LaneTells, Tells}
 use Rattle.wl_history.proofs.Keeping.{any_place, set_place, at_own_place}
 
@@ -130,6 +133,24 @@ down_tells text start e s queue bookings aired got key setup h thread (hand.Book
     record { start_is = h.start_is; setup_is = h.setup_is; key_is = h.key_is; lanes = h.lanes; booked_are = h.booked_are; last = h.last; frames = h.frames }
 
 module _ (text : Sealing) (start : EndStart) (e : EndId) (s : EndState) (queue : ℕ → List (List ℕ)) (bookings : List (List Numbers)) (aired : List Airing) (got : ℕ → Receiving) (key : ℕ) (setup : Setup)
+    (h : Tells text start e s queue bookings aired got key setup) where
+  -- another setup
+  setup_tells : (new : Setup) → Tells text start e (record s { setup = new }) queue bookings aired got key new
+  setup_tells new = record { start_is = h.start_is; setup_is = refl; key_is = h.key_is; lanes = h.lanes; booked_are = h.booked_are; last = h.last; frames = h.frames }
+
+  -- the same queues, told otherwise
+  pub tells_alike : (other : ℕ → List (List ℕ)) → ((l : ℕ) → queue l ≡ other l) → Tells text start e s other bookings aired got key setup
+  tells_alike other same = record {
+    start_is = h.start_is;
+    setup_is = h.setup_is;
+    key_is = h.key_is;
+    lanes = λ l lt. subst (λ (q : List (List ℕ)). LaneTells l (lane_at s l) q (got l) aired) (same l) (h.lanes l lt);
+    booked_are = h.booked_are;
+    last = h.last;
+    frames = h.frames;
+  }
+
+module _ (text : Sealing) (start : EndStart) (e : EndId) (s : EndState) (queue : ℕ → List (List ℕ)) (bookings : List (List Numbers)) (aired : List Airing) (got : ℕ → Receiving) (key : ℕ) (setup : Setup)
     (is : IsEnd s) (h : Tells text start e s queue bookings aired got key setup) where
   within_lanes : (l : ℕ) → l < lane_count → l < length s.lanes
   within_lanes l lt = omega (arith, lt, is.nine)
@@ -183,10 +204,6 @@ module _ (text : Sealing) (start : EndStart) (e : EndId) (s : EndState) (queue :
     last = h.last;
     frames = h.frames;
   }
-
-  pub install_tells : (o : Outcome) → Tells text start e (after_install o s) queue bookings aired got key (installed o setup)
-  install_tells (outcomes.Installed new) = record { start_is = h.start_is; setup_is = ap (λ (x : Setup). let t : Setup = record x { keys = new } in t) h.setup_is; key_is = h.key_is; lanes = h.lanes; booked_are = h.booked_are; last = h.last; frames = h.frames }
-  install_tells other = h
 
   pub turn_tells : (o : Outcome) → o ≡ turn_answer s.numbers → Tells text start e (after_turn o s) queue bookings aired got (key_turned o key) setup
   turn_tells (outcomes.Turned new) is = record { start_is = h.start_is; setup_is = h.setup_is; key_is = omega (arith, h.key_is, turned_key (s.numbers.key == last_key) s.numbers.key new is); lanes = h.lanes; booked_are = h.booked_are; last = h.last; frames = h.frames }
@@ -308,3 +325,36 @@ module _ (text : Sealing) (start : EndStart) (e : EndId) (s : EndState) (queue :
     pub asked_tells : Tells text start e (with_moved bar.lane moved s) queue bookings aired got_asked key setup
     asked_tells = passed_tells bar.lane moved got_asked own_asked
         (λ l ne. sym (ap (λ (b : Bool). if b then passed_if (requested (got l).window bar.start) (got l) else got l) (ne_eqb (lane_index bar.lane) l ne)))
+
+-- ---- what machines make
+
+swapped : (a b : ℕ) → (a == b) ≡ (b == a)
+swapped a b = elim (cases_eq a b) [
+  | inl same ↦ eq-eqb a b same ∙ sym (eq-eqb b a (sym same))
+  | inr ne ↦ ne_eqb a b ne ∙ sym (ne_eqb b a (λ e. ne (sym e)))
+]
+
+-- a body more of management
+body_more : (here place : Bool) → here ≡ place → (bodies data_bodies : List (List ℕ)) (body : List ℕ)
+    → (if here then (if place then bodies else data_bodies) ++ body ∷ [] else (if place then bodies else data_bodies)) ≡ (if place then bodies ++ body ∷ [] else data_bodies)
+body_more true true same bodies data_bodies body = refl
+body_more false false same bodies data_bodies body = refl
+body_more true false same bodies data_bodies body = absurd (cc same)
+body_more false true same bodies data_bodies body = absurd (cc same)
+
+module _ (text : Sealing) (start : EndStart) (e : EndId) (s : EndState) (bodies : List (List ℕ)) (own : ℕ → List (List ℕ)) (bookings : List (List Numbers)) (aired : List Airing) (got : ℕ → Receiving) (key : ℕ) (setup : Setup)
+    (is : IsEnd s) (h : Tells text start e s (queue_by bodies own) bookings aired got key setup) where
+  made_by : (new : Setup) (message : Option Message) → Tells text start e (with_message message (record s { setup = new })) (queue_by (bodies_with message bodies) own) bookings aired got key new
+  made_by new None = setup_tells text start e s (queue_by bodies own) bookings aired got key setup h new
+  made_by new (Some message) =
+      let body = message_octets message in
+      let queue_then : ℕ → List (List ℕ) = λ l. if management == l then queue_by bodies own l ++ body ∷ [] else queue_by bodies own l in
+      tells_alike text start e (record (after_queue management body s) { setup = new }) queue_then bookings aired got key new
+      (setup_tells text start e (after_queue management body s) queue_then bookings aired got key setup (queue_tells text start e s (queue_by bodies own) bookings aired got key setup is h management body) new)
+      (queue_by (bodies ++ body ∷ []) own) (λ l. body_more (management == l) (l == management) (swapped management l) bodies (own l) body)
+
+  -- what a machine makes of the setup, and of the words of it
+  pub made_tells : (f : Setup → Made) → Tells text start e (with_made (f s.setup) s) (queue_by (bodies_with (f setup).message bodies) own) bookings aired got key (f setup).setup
+  made_tells f =
+      subst (λ (x : Setup). Tells text start e (with_made (f s.setup) s) (queue_by (bodies_with (f x).message bodies) own) bookings aired got key (f x).setup) h.setup_is
+      (made_by (f s.setup).setup (f s.setup).message)

@@ -14,9 +14,10 @@ use Rattle.wl_history.specs.declared.start.Start.{Start}
 use Rattle.wl_history.specs.declared.step.Step.{Step}
 use Rattle.wl_history.specs.Hands.{hand_of}
 use Rattle.wl_history.specs.Words.{nth_of}
-use Rattle.wl_history.specs.EndState.{EndState, started, frames_on, after_queue, after_reserve, after_book, after_put, after_again, after_taken, after_heard, after_bar_out, after_request, after_install, after_turn}
+use Rattle.wl_history.specs.EndState.{EndState, started, frames_on, after_queue, after_reserve, after_book, after_put, after_again, after_taken, after_heard, after_bar_out, after_request, after_install, after_turn, with_made}
 use Rattle.wl_history.specs.Answers.{booked_at, aired_octets, octets_again, acks_made, bars_made}
 use Rattle.wl_history.specs.Hearing.{with_number, forged}
+use Rattle.wl_history.specs.Machines.{switched, map_asked, map_torn, given}
 
 pub record AirState : Type 0 where
   pub ap : EndState
@@ -65,11 +66,12 @@ abbrev pub octets_named : AirState → EndId → ℕ → Option ℕ → Option (
 octets_named a end link nth = nth_of nth (frames_on (end_of a (peer_of end)) link)
 
 -- The octets that a command puts before the end that hears: a frame of the peer, the same with another
--- sequence number, or a frame that was sealed so; none where the peer sent no such frame.
+-- sequence number, a frame that was sealed so, or any; none where the peer sent no such frame.
 abbrev pub octets_heard : Sealing → Command → AirState → Option (List ℕ)
 octets_heard text (commands.Deliver end link nth) a = octets_named a end link nth
 octets_heard text (commands.Alter end link nth number) a = option_map (with_number number) (octets_named a end link nth)
 octets_heard text (commands.Forge end link lane key pn number body) a = Some (forged text (end_of a (peer_of end)).start link lane (record { pos = number; key = key; pn = pn }) body)
+octets_heard text (commands.Inject end link octets) a = Some octets
 octets_heard text other a = None
 
 -- the end that hears a frame by a command, where it hears one
@@ -77,6 +79,7 @@ abbrev pub hearer : Command → Option EndId
 hearer (commands.Deliver end link nth) = Some end
 hearer (commands.Alter end link nth number) = Some end
 hearer (commands.Forge end link lane key pn number body) = Some end
+hearer (commands.Inject end link octets) = Some end
 hearer other = None
 
 -- two ends that did nothing yet
@@ -93,12 +96,17 @@ after text thread (commands.Deliver end link nth) outcome a = with_end end (afte
 after text thread (commands.Again end link lane pos) outcome a = with_end end (after_again link lane (octets_again text link lane (booked_at (end_of a end) lane pos) (end_of a end)) outcome (end_of a end)) a
 after text thread (commands.Alter end link nth number) outcome a = with_end end (after_heard (end_of a (peer_of end)) outcome (end_of a end)) a
 after text thread (commands.Forge end link lane key pn number body) outcome a = with_end end (after_heard (end_of a (peer_of end)) outcome (end_of a end)) a
+after text thread (commands.Inject end link octets) outcome a = with_end end (after_heard (end_of a (peer_of end)) outcome (end_of a end)) a
 after text thread (commands.BarOut end lane to) outcome a = with_bars end (bars_made lane outcome (bars_of a end)) (with_end end (after_bar_out lane to (end_of a end)) a)
 after text thread (commands.BarIn end nth) outcome a = with_end end (after_request (bar_named a end nth) (end_of a end)) a
 after text thread (commands.AckOut end lane) outcome a = with_acks end (acks_made lane outcome (acks_of a end)) a
 after text thread (commands.AckIn end nth) outcome a = with_end end (after_taken (ack_named a end nth) (end_of a end)) a
 after text thread (commands.Install end) outcome a = with_end end (after_install outcome (end_of a end)) a
 after text thread (commands.Turn end) outcome a = with_end end (after_turn outcome (end_of a end)) a
+after text thread (commands.Power end link on) outcome a = with_end end (with_made (switched link on (end_of a end).setup) (end_of a end)) a
+after text thread (commands.MapAsk end entries) outcome a = with_end end (with_made (map_asked entries outcome (end_of a end).setup) (end_of a end)) a
+after text thread (commands.MapTeardown end) outcome a = with_end end (with_made (map_torn outcome (end_of a end).setup) (end_of a end)) a
+after text thread (commands.GiveUp end what) outcome a = with_end end (with_made (given what outcome (end_of a end).setup) (end_of a end)) a
 
 -- where a history leaves two ends that started so
 unfoldable pub state_of : Sealing → Start → List Step → AirState

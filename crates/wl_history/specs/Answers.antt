@@ -15,13 +15,13 @@ use Rattle.wl_window.specs.declared.refusal.OriginRefusal.{OriginRefusal}
 use Rattle.wl_window.specs.declared.refusal.OriginRefusal.TheVariants.{NothingQueued, WindowFull}
 use Rattle.wl_history.specs.declared.outcome.Outcome.{Outcome}
 use Rattle.wl_history.specs.declared.outcome.Outcome.TheVariants as outcomes
-use Rattle.wl_history.specs.declared.outcome.KeptWhy.TheVariants.{NotSetUp}
+use Rattle.wl_history.specs.declared.outcome.KeptWhy.{KeptWhy}
 use Rattle.wl_history.specs.declared.hand.Hand.{Hand}
 use Rattle.wl_history.specs.declared.hand.Hand.TheVariants as hand
 use Rattle.wl_history.specs.declared.arrival.Arrival.{Arrival}
 use Rattle.wl_history.specs.declared.ack.Ack.{Ack}
 use Rattle.wl_history.specs.declared.ack.Bar.{Bar}
-use Rattle.wl_history.specs.Ends.{is_set_up}
+use Rattle.wl_history.specs.Ends.{why_kept}
 use Rattle.wl_history.specs.Words.{Airing, body_at}
 use Rattle.wl_history.specs.Hearing.{octets_of}
 use Rattle.wl_history.specs.EndState.{LaneState, EndState, lane_at, was_aired_at, acked_by, let_up, given_by, moved_by}
@@ -50,16 +50,18 @@ abbrev pub book_answer : Hand → NumberObject → Outcome
 book_answer (hand.Reserve lane) numbers = if is_spent numbers then outcomes.Spent lane else outcomes.Booked lane (drawn numbers lane)
 book_answer other numbers = outcomes.NoReserve
 
--- a put of this booking, done or not, aired before or not, over a link that is set up or not
-abbrev pub put_answer : Lane → Numbers → Bool → Bool → Bool → Outcome
-put_answer lane numbers is_done was_aired is_set_up =
-    if is_done then outcomes.Nothing
-    else if is_set_up then outcomes.Put lane numbers was_aired
-    else outcomes.Kept lane numbers.pos NotSetUp
+-- a booking that may go over the link, or may not for a reason
+abbrev pub put_if : Lane → Numbers → Bool → Option KeptWhy → Outcome
+put_if lane numbers was_aired None = outcomes.Put lane numbers was_aired
+put_if lane numbers was_aired (Some why) = outcomes.Kept lane numbers.pos why
+
+-- a put of this booking, done or not, aired before or not, where it is kept for a reason or not
+abbrev pub put_answer : Lane → Numbers → Bool → Bool → Option KeptWhy → Outcome
+put_answer lane numbers is_done was_aired why = if is_done then outcomes.Nothing else put_if lane numbers was_aired why
 
 -- a put over a link, for what the hand holds
 abbrev pub put_of : ℕ → Hand → EndState → Outcome
-put_of link (hand.Booking lane n) s = put_answer lane n (is_done (lane_at s (lane_index lane)).sending n.pos) (was_aired_at (lane_at s (lane_index lane)).aired n.pos) (is_set_up s.setup link)
+put_of link (hand.Booking lane n) s = put_answer lane n (is_done (lane_at s (lane_index lane)).sending n.pos) (was_aired_at (lane_at s (lane_index lane)).aired n.pos) (why_kept s.start.end s.setup lane link)
 put_of link other s = outcomes.Nothing
 
 abbrev pub airing : ℕ → Lane → Numbers → Bool → List ℕ → Airing
@@ -82,17 +84,18 @@ at_position pos (n ∷ ns) = if n.pos == pos then Some n else at_position pos ns
 abbrev pub booked_at : EndState → Lane → ℕ → Option Numbers
 booked_at s lane pos = at_position pos (list_of s.booked lane)
 
--- an airing of this booking, done or not, aired before or not, over a link that is set up or not
-abbrev pub again_answer : Numbers → Bool → Bool → Bool → Outcome
-again_answer numbers is_done was_aired is_set_up =
-    if is_done then outcomes.Nothing
-    else if is_set_up then outcomes.PutAgain numbers was_aired
-    else outcomes.KeptAgain NotSetUp
+abbrev pub again_if : Numbers → Bool → Option KeptWhy → Outcome
+again_if numbers was_aired None = outcomes.PutAgain numbers was_aired
+again_if numbers was_aired (Some why) = outcomes.KeptAgain why
+
+-- an airing of this booking, done or not, aired before or not, where it is kept for a reason or not
+abbrev pub again_answer : Numbers → Bool → Bool → Option KeptWhy → Outcome
+again_answer numbers is_done was_aired why = if is_done then outcomes.Nothing else again_if numbers was_aired why
 
 -- an airing of a booking that was named
 abbrev pub again_of : ℕ → Lane → Option Numbers → EndState → Outcome
 again_of link lane None s = outcomes.Nothing
-again_of link lane (Some n) s = again_answer n (is_done (lane_at s (lane_index lane)).sending n.pos) (was_aired_at (lane_at s (lane_index lane)).aired n.pos) (is_set_up s.setup link)
+again_of link lane (Some n) s = again_answer n (is_done (lane_at s (lane_index lane)).sending n.pos) (was_aired_at (lane_at s (lane_index lane)).aired n.pos) (why_kept s.start.end s.setup lane link)
 
 -- the octets that it airs, where it airs any
 abbrev pub octets_again : Sealing → ℕ → Lane → Option Numbers → EndState → List ℕ

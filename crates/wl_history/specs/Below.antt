@@ -1,8 +1,10 @@
--- For private contracts alone: what the crates below say of bookings, and of windows that send.
-use Rattle.std.specs.Prelude.{◌≡◌, ℕ, suc, ◌<◌, ◌==◌, ◌||◌, true, false, List, length, Some, Ok}
+-- For private contracts alone: what the crates below say of bookings, of windows that send, and of messages.
+use Rattle.std.specs.Prelude.{◌≡◌, ℕ, suc, ◌<◌, ◌≤◌, ◌==◌, ◌||◌, true, false, List, length, Some, Ok}
 use Rattle.std.specs.List.{Contains}
 use Rattle.wl_elem.specs.declared.lane.Lane.{Lane}
 use Rattle.wl_elem.specs.Lanes.{lane_index}
+use Rattle.wl_message.specs.declared.message.Message.{Message}
+use Rattle.wl_message.specs.Message.{message_octets, message_of, IsMessage}
 use Rattle.wl_number.specs.declared.numbers.Numbers.{Numbers}
 use Rattle.wl_number.specs.NumberObject.{NumberObject, drawn}
 use Rattle.wl_elem.specs.Pairs.{pair_below}
@@ -17,6 +19,11 @@ pub record NumberLaws : Type 0 where
   pub draw_above : (o : NumberObject) (lane : Lane) (b : Numbers) → pair_below o.key o.last b.key b.pn ≡ false → is_below b (drawn o lane) ≡ true
   pub not_back : (a b : Numbers) → is_below a b ≡ true → is_below b a ≡ false
   pub not_itself : (a : Numbers) → is_below a a ≡ false
+
+-- what the crate of messages says of them
+pub record MessageLaws : Type 0 where
+  pub read : (m : Message) → IsMessage m → message_of (message_octets m) ≡ m
+  pub short : (m : Message) → IsMessage m → length (message_octets m) ≤ 64
 
 -- what the crate of windows says of them
 pub record WindowLaws : Type 0 where

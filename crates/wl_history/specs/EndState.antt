@@ -1,5 +1,5 @@
 -- The state of an end, and what each call makes of it. Nothing here speaks of a history.
-use Rattle.std.specs.Prelude.{◌≡◌, ◌≤◌, ℕ, zero, suc, ◌+◌, ◌-◌, if◌then◌else◌, Bool, true, false, List, [], ◌∷◌, ◌++◌, length, slice_index_or, slice_set, Option, Some, None, Result, Ok, Err}
+use Rattle.std.specs.Prelude.{◌≡◌, ◌<◌, ◌≤◌, ℕ, zero, suc, ◌+◌, ◌-◌, if◌then◌else◌, Bool, true, false, List, [], ◌∷◌, ◌++◌, length, slice_index_or, slice_set, Option, Some, None, Result, Ok, Err}
 use Rattle.wl_elem.specs.declared.lane.Lane.{Lane}
 use Rattle.wl_elem.specs.Element.{msdu_limit}
 use Rattle.wl_elem.specs.Lanes.{lane_index, lane_count}
@@ -21,7 +21,11 @@ use Rattle.wl_history.specs.declared.outcome.Outcome.{Outcome}
 use Rattle.wl_history.specs.declared.outcome.Outcome.TheVariants as outcomes
 use Rattle.wl_history.specs.declared.setup.Setup.{Setup}
 use Rattle.wl_history.specs.declared.start.EndStart.{EndStart}
+use Rattle.wl_elem.specs.declared.lane.Lane.TheVariants as lane_kinds
+use Rattle.wl_message.specs.declared.message.Message.{Message}
+use Rattle.wl_message.specs.Message.{message_octets, message_of, IsMade as IsBody}
 use Rattle.wl_history.specs.Ends.{setup_begun, receive_size, IsSetup}
+use Rattle.wl_history.specs.Machines.{Made, installed, acted}
 use Rattle.wl_history.specs.Hands.{hand_of, set_hand}
 use Rattle.wl_history.specs.Sender.{IsSender, IsGapless}
 use Rattle.wl_history.specs.Words.{body_at}
@@ -82,6 +86,10 @@ no_lanes = no_lane ∷ no_lane ∷ no_lane ∷ no_lane ∷ no_lane ∷ no_lane �
 abbrev pub no_frames : List (List (List ℕ))
 no_frames = [] ∷ [] ∷ [] ∷ [] ∷ [] ∷ [] ∷ [] ∷ [] ∷ [] ∷ [] ∷ [] ∷ [] ∷ [] ∷ [] ∷ [] ∷ []
 
+-- the place of management among the lanes
+abbrev pub management : ℕ
+management = lane_index lane_kinds.Management
+
 -- nothing was queued, sent or received
 abbrev pub started : EndStart → EndState
 started start = record {
@@ -95,6 +103,11 @@ started start = record {
   frames = no_frames;
 }
 
+-- what holds of management: each body queued is one that an end makes, and none that came waits
+pub record IsManagement (lane : LaneState) : Type 0 where
+  pub made : (pos : ℕ) → pos < length lane.queue → IsBody (body_at lane.queue pos)
+  pub idle : lane.window.slots ≡ []
+
 -- what holds of each end
 pub record IsEnd (s : EndState) : Type 0 where
   pub nine : length s.lanes ≡ lane_count
@@ -105,6 +118,9 @@ pub record IsEnd (s : EndState) : Type 0 where
   pub gapless : IsGapless s.numbers s.booked
   pub sized : IsSetup s.setup
   pub roomy : (l : ℕ) → receive_size s.setup l ≤ (lane_at s l).room
+  pub managed : IsManagement (lane_at s management)
+  -- tokens are of one octet
+  pub token_fits : s.setup.token < 256
 
 -- ---- parts of the calls
 
@@ -170,6 +186,20 @@ abbrev pub after_again : ℕ → Lane → List ℕ → Outcome → EndState → 
 after_again link lane octets (outcomes.PutAgain n retry) s = with_frame link octets lane n s
 after_again link lane octets other s = s
 
+-- a message goes into the queue of management
+abbrev pub with_message : Option Message → EndState → EndState
+with_message None s = s
+with_message (Some message) s = after_queue management (message_octets message) s
+
+-- what machines made
+abbrev pub with_made : Made → EndState → EndState
+with_made made s = with_message made.message (record s { setup = made.setup })
+
+-- a body of a lane that is released
+abbrev pub after_told : Lane → List ℕ → EndState → EndState
+after_told (lane_kinds.Tid tid) body s = s
+after_told lane_kinds.Management body s = with_made (acted (message_of body) s.setup) s
+
 -- what goes up is released where its pair is above the last, which it then is
 pub record LetUp : Type 0 where
   pub positions : List ℕ
@@ -203,20 +233,20 @@ with_moved lane moved s =
       last = slice_set s.last (lane_index lane) (let_up (last_of s.last lane) moved.up).last;
     }
 
-abbrev pub after_arrived : Lane → Arrived Arrival → EndState → EndState
-after_arrived lane (Stored moved) s = with_moved lane moved s
-after_arrived lane other s = s
+-- Management has room for one body at a time, so what is stored there is released at once.
+abbrev pub after_arrived : Lane → List ℕ → Arrived Arrival → EndState → EndState
+after_arrived lane body (Stored moved) s = after_told lane body (with_moved lane moved s)
+after_arrived lane body other s = s
 
 abbrev pub after_hear : Lane → ℕ → ℕ → Arrival → EndState → EndState
 after_hear lane number size a s =
     if is_above (last_of s.last lane) a.numbers.key a.numbers.pn
-    then after_arrived lane (arrived (lane_at s (lane_index lane)).window number size a) s
+    then after_arrived lane a.body (arrived (lane_at s (lane_index lane)).window number size a) s
     else s
 
 -- the next key is held
 abbrev pub after_install : Outcome → EndState → EndState
-after_install (outcomes.Installed key) s = record s { setup = record s.setup { keys = key } }
-after_install other s = s
+after_install outcome s = with_made (installed outcome s.setup) s
 
 -- the next key is sent under
 abbrev pub after_turn : Outcome → EndState → EndState

@@ -1,10 +1,17 @@
 -- What an end starts with, and what it has set up: addresses, links, sizes.
-use Rattle.std.specs.Prelude.{ℕ, ◌==◌, if◌then◌else◌, Bool, is_some, List, [], ◌∷◌, Option, Some, None, ◌≡◌, ◌<◌, ◌≤◌, ◌^◌, length}
+use Rattle.std.specs.Prelude.{ℕ, ◌==◌, ◌||◌, not, if◌then◌else◌, Bool, true, false, is_some, List, [], ◌∷◌, Option, Some, None, ◌≡◌, ◌<◌, ◌≤◌, ◌^◌, length, slice_index, slice_index_or}
+use Rattle.std.specs.List.{list_any}
 use Rattle.wl_elem.specs.declared.lane.EndId.{EndId}
 use Rattle.wl_elem.specs.declared.lane.EndId.TheVariants.{Ap, Sta}
-use Rattle.wl_elem.specs.declared.lane.Lane.TheVariants.{Management}
+use Rattle.wl_elem.specs.declared.lane.Direction.{Direction}
+use Rattle.wl_elem.specs.declared.lane.Direction.TheVariants.{Down, Up}
+use Rattle.wl_elem.specs.declared.lane.Lane.{Lane}
+use Rattle.wl_elem.specs.declared.lane.Lane.TheVariants.{Tid, Management}
 use Rattle.wl_elem.specs.Lanes.{lane_index}
 use Rattle.wl_elem.specs.Links.{has_link, set_with}
+use Rattle.wl_map.specs.Ends.{agreed_sets, opened}
+use Rattle.wl_history.specs.declared.outcome.KeptWhy.{KeptWhy}
+use Rattle.wl_history.specs.declared.outcome.KeptWhy.TheVariants.{NotSetUp, Unpowered, Unmapped}
 use Rattle.wl_history.specs.declared.setup.Setup.{Setup}
 use Rattle.wl_history.specs.declared.start.LinkStart.{LinkStart}
 use Rattle.wl_history.specs.declared.start.EndStart.{EndStart}
@@ -48,12 +55,59 @@ links_in set (link ∷ links) = links_in (set_with set link.id) links
 abbrev pub links_begun : EndStart → ℕ
 links_begun start = if start.associated then links_in 0 start.links else 0
 
--- what an end has set up at the start
+-- by link ID, all radios on
+abbrev pub all_on : List Bool
+all_on = true ∷ true ∷ true ∷ true ∷ true ∷ true ∷ true ∷ true ∷ true ∷ true ∷ true ∷ true ∷ true ∷ true ∷ true ∷ []
+
+-- what an end has set up at the start: both directions have the default mapping, and nothing was asked for
 abbrev pub setup_begun : EndStart → Setup
-setup_begun start = record { links = links_begun start; window = start.window; keys = start.newest }
+setup_begun start = record {
+  links = links_begun start;
+  radios = all_on;
+  window = start.window;
+  keys = start.newest;
+  maps = opened start.deny (links_begun start);
+  token = 0;
+}
+
+-- ---- where frames may go (IEEE Std 802.11be, 35.3.7)
 
 abbrev pub is_set_up : Setup → ℕ → Bool
 is_set_up setup id = has_link setup.links id
+
+abbrev pub is_powered : Setup → ℕ → Bool
+is_powered setup id = slice_index_or setup.radios id false
+
+-- the direction in which an end sends
+abbrev pub own_way : EndId → Direction
+own_way Ap = Down
+own_way Sta = Up
+
+-- some TID has the link in the direction
+abbrev pub has_some : Direction → Setup → ℕ → Bool
+has_some d setup id = list_any (λ set. has_link set id) (agreed_sets d setup.maps)
+
+-- An end's agreed mapping has the link for a lane: for data that of its own direction for the TID, for management
+-- either for some TID.
+abbrev pub is_mapped : EndId → Setup → Lane → ℕ → Bool
+is_mapped e setup (Tid tid) id = has_link (slice_index (agreed_sets (own_way e) setup.maps) tid) id
+is_mapped e setup Management id = has_some Down setup id || has_some Up setup id
+
+-- an end may send a frame of the lane over the link
+pub record IsAllowed (e : EndId) (setup : Setup) (lane : Lane) (id : ℕ) : Type 0 where
+  pub set_up : is_set_up setup id ≡ true
+  pub powered : is_powered setup id ≡ true
+  pub mapped : is_mapped e setup lane id ≡ true
+
+-- why it may not: the first reason that holds
+abbrev pub why_kept : EndId → Setup → Lane → ℕ → Option KeptWhy
+why_kept e setup lane id =
+    if not (is_set_up setup id) then Some NotSetUp
+    else if not (is_powered setup id) then Some Unpowered
+    else if not (is_mapped e setup lane id) then Some Unmapped
+    else None
+
+-- ---- sizes
 
 -- how many positions from its base on an originator may have granted, by the place of the lane
 abbrev pub send_size : Setup → ℕ → ℕ

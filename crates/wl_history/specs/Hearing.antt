@@ -1,6 +1,6 @@
 -- Frames on the air: the octets that a booking is aired in, and what an end makes of octets that it
 -- hears (IEEE Std 802.11, 10.25.6 and 12.5.2; IEEE Std 802.11be, 35.3).
-use Rattle.std.specs.Prelude.{ℕ, ◌+◌, ◌*◌, ◌/◌, ◌%◌, slice_set, slice_index_or, ◌==◌, ◌&&◌, if◌then◌else◌, not, Bool, true, false, List, [], ◌∷◌, Option, Some, None, Result, Ok, Err, ◌<◌, ◌^◌, bytes_eq}
+use Rattle.std.specs.Prelude.{ℕ, ◌+◌, ◌*◌, ◌/◌, ◌%◌, slice_set, slice_index_or, ◌==◌, ◌&&◌, ◌||◌, if◌then◌else◌, not, Bool, true, false, List, [], ◌∷◌, Option, Some, None, Result, Ok, Err, ◌<◌, ◌^◌, bytes_eq}
 use Rattle.wl_elem.specs.declared.fault.Refusal.{Refusal}
 use Rattle.wl_elem.specs.declared.why.Why.TheVariants.{WrongAddress}
 use Rattle.wl_elem.specs.declared.lane.EndId.{EndId}
@@ -23,7 +23,7 @@ use Rattle.wl_history.specs.declared.outcome.Outcome.TheVariants as outcomes
 use Rattle.wl_history.specs.declared.opened.Opened.{Opened}
 use Rattle.wl_history.specs.declared.setup.Setup.{Setup}
 use Rattle.wl_history.specs.declared.start.EndStart.{EndStart}
-use Rattle.wl_history.specs.Ends.{mld_of, link_address, is_set_up}
+use Rattle.wl_history.specs.Ends.{mld_of, link_address, is_set_up, is_powered}
 use Rattle.wl_history.specs.Words.{Airing, body_at}
 
 abbrev pub is_sta : EndId → Bool
@@ -127,10 +127,14 @@ judged_kind newest f Action = judged_protected newest lanes.Management f f.prote
 judged_kind newest f AssocAsk = Answered outcomes.Ignored
 judged_kind newest f AssocReply = Answered outcomes.Ignored
 
+-- the radio is off on the link, or the frame is protected and the link isn't set up
+abbrev pub is_down : Setup → ℕ → Kind → Bool
+is_down setup link kind = not (is_powered setup link) || (is_protected kind && not (is_set_up setup link))
+
 -- the tests of a frame at its receiver, in order
 abbrev pub judged_frame : EndStart → Setup → EndId → ℕ → FrameValue → Judged
 judged_frame start setup receiver link f =
-    if is_protected f.header.kind && not (is_set_up setup link) then Answered outcomes.LinkDown
+    if is_down setup link f.header.kind then Answered outcomes.LinkDown
     else if not (bytes_eq f.header.a1 (link_address start link receiver)) then Answered (outcomes.BadFrame WrongAddress 4)
     else if not (bytes_eq f.header.a2 (link_address start link (peer_of receiver))) then Answered (outcomes.BadFrame WrongAddress 10)
     else if is_own_way receiver f.header.kind then Answered (outcomes.BadFrame WrongAddress 1)

@@ -24,6 +24,7 @@ use Rattle.wl_history.specs.Answers.{booked_at, reserve_answer, book_answer, put
 use Rattle.wl_history.specs.Hearing.{Closed, Judged, Answered, ToOpen, judged, opened_under, sealed_under, text_of, booking_of}
 use Rattle.wl_history.specs.EndState.{EndState, lane_at, arrival_of, hear_answer}
 use Rattle.wl_history.specs.AirState.{AirState, end_of, octets_heard, ack_named, bar_named, state_of}
+use Rattle.wl_history.specs.Machines.{map_ask_answer, teardown_answer, give_up_answer, AreEntries}
 use Rattle.wl_elem.specs.Element.{msdu_limit}
 
 -- ---- hearing: `s` hears octets of `sender`
@@ -67,12 +68,17 @@ IsAnswer text thread (commands.Again end link lane pos) a outcome = outcome ≡ 
 IsAnswer text thread (commands.Deliver end link nth) a outcome = HeardIf text (end_of a end) (end_of a (peer_of end)) link (octets_heard text (commands.Deliver end link nth) a) outcome
 IsAnswer text thread (commands.Alter end link nth number) a outcome = HeardIf text (end_of a end) (end_of a (peer_of end)) link (octets_heard text (commands.Alter end link nth number) a) outcome
 IsAnswer text thread (commands.Forge end link lane key pn number body) a outcome = HeardIf text (end_of a end) (end_of a (peer_of end)) link (octets_heard text (commands.Forge end link lane key pn number body) a) outcome
+IsAnswer text thread (commands.Inject end link octets) a outcome = HeardIf text (end_of a end) (end_of a (peer_of end)) link (octets_heard text (commands.Inject end link octets) a) outcome
 IsAnswer text thread (commands.AckOut end lane) a outcome = outcome ≡ ack_out_answer (lane_at (end_of a end) (lane_index lane)).window
 IsAnswer text thread (commands.AckIn end nth) a outcome = outcome ≡ ack_answer (ack_named a end nth) (end_of a end)
 IsAnswer text thread (commands.BarOut end lane to) a outcome = outcome ≡ bar_out_answer lane to (end_of a end)
 IsAnswer text thread (commands.BarIn end nth) a outcome = outcome ≡ bar_answer (bar_named a end nth) (end_of a end)
 IsAnswer text thread (commands.Install end) a outcome = outcome ≡ install_answer (end_of a end).setup.keys
 IsAnswer text thread (commands.Turn end) a outcome = outcome ≡ turn_answer (end_of a end).numbers
+IsAnswer text thread (commands.Power end link on) a outcome = outcome ≡ outcomes.Set
+IsAnswer text thread (commands.MapAsk end entries) a outcome = outcome ≡ map_ask_answer entries (end_of a end).setup
+IsAnswer text thread (commands.MapTeardown end) a outcome = outcome ≡ teardown_answer (end_of a end).setup
+IsAnswer text thread (commands.GiveUp end what) a outcome = outcome ≡ give_up_answer what (end_of a end).setup
 
 -- ---- forgeries
 
@@ -101,6 +107,7 @@ abbrev pub Forges : Sealing → Command → AirState → Opened → Type 0
 Forges text (commands.Deliver end link nth) a opened = ForgedIf text (end_of a end) (end_of a (peer_of end)) link (octets_heard text (commands.Deliver end link nth) a) opened
 Forges text (commands.Alter end link nth number) a opened = ForgedIf text (end_of a end) (end_of a (peer_of end)) link (octets_heard text (commands.Alter end link nth number) a) opened
 Forges text (commands.Forge end link lane key pn number body) a opened = ForgedIf text (end_of a end) (end_of a (peer_of end)) link (octets_heard text (commands.Forge end link lane key pn number body) a) opened
+Forges text (commands.Inject end link octets) a opened = ForgedIf text (end_of a end) (end_of a (peer_of end)) link (octets_heard text (commands.Inject end link octets) a) opened
 Forges text other a opened = ⊥
 
 -- ---- histories
@@ -113,6 +120,10 @@ pub record IsSealable (pn number : ℕ) (body : List ℕ) : Type 0 where
   pub some_body : 1 ≤ length body
   pub body_limit : length body ≤ msdu_limit
 
+-- octets that are put before an end aren't too many
+abbrev pub octets_limit : ℕ
+octets_limit = 4096
+
 -- the members of a command are those of a scenario with this start
 abbrev pub Fits : Start → Command → Type 0
 Fits start (commands.Queue end tid body) = (tid < 8) × (1 ≤ length body) × (length body ≤ msdu_limit)
@@ -124,6 +135,9 @@ Fits start (commands.Alter end link nth number) = (is_link (start_of start end) 
 Fits start (commands.Forge end link lane key pn number body) = (is_link (start_of start end) link ≡ true) × IsLane lane × IsSealable pn number body
 Fits start (commands.AckOut end lane) = IsLane lane
 Fits start (commands.BarOut end lane to) = IsLane lane
+Fits start (commands.Inject end link octets) = (is_link (start_of start end) link ≡ true) × (length octets ≤ octets_limit)
+Fits start (commands.Power end link on) = is_link (start_of start end) link ≡ true
+Fits start (commands.MapAsk end entries) = length entries ≤ 2
 Fits start other = Unit {0}
 
 -- a number that a command may name: of 32 bits
@@ -137,6 +151,9 @@ InRanges (commands.Again end link lane pos) = (link < 15) × (pos < 2 ^ 32)
 InRanges (commands.Deliver end link nth) = (link < 15) × InWord nth
 InRanges (commands.Alter end link nth number) = (link < 15) × InWord nth
 InRanges (commands.Forge end link lane key pn number body) = (link < 15) × (key < 2 ^ 16)
+InRanges (commands.Inject end link octets) = link < 15
+InRanges (commands.Power end link on) = link < 15
+InRanges (commands.MapAsk end entries) = AreEntries entries
 InRanges (commands.AckIn end nth) = InWord nth
 InRanges (commands.BarOut end lane to) = to < 2 ^ 32
 InRanges (commands.BarIn end nth) = InWord nth

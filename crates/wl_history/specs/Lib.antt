@@ -1,4 +1,5 @@
 pub mod Ends
+pub mod Machines
 pub mod Hands
 pub mod Words
 pub mod Sender

@@ -1,5 +1,5 @@
 -- Safe histories.
-use Rattle.std.specs.Prelude.{◌≡◌, ℕ, ◌<◌, true, List, [], ◌∷◌, length, Option, Some, None, Result}
+use Rattle.std.specs.Prelude.{◌≡◌, ℕ, ◌<◌, List, [], ◌∷◌, length, Option, Some, None, Result}
 use Rattle.std.specs.List.{AllByRecursion, Contains}
 use Rattle.wl_elem.specs.declared.fault.Refusal.{Refusal}
 use Rattle.wl_elem.specs.declared.lane.EndId.{EndId}
@@ -20,7 +20,7 @@ use Rattle.wl_history.specs.declared.setup.Setup.{Setup}
 use Rattle.wl_history.specs.declared.start.EndStart.{EndStart}
 use Rattle.wl_history.specs.declared.start.Start.{Start}
 use Rattle.wl_history.specs.declared.step.Step.{Step}
-use Rattle.wl_history.specs.Ends.{start_of, is_set_up}
+use Rattle.wl_history.specs.Ends.{start_of, IsAllowed}
 use Rattle.wl_history.specs.Words.{setup_of, queued, body_at, booked, Airing, airings, receiving}
 use Rattle.wl_history.specs.Hearing.{Closed, ToOpen, opened_under, sealed_under, text_of}
 use Rattle.wl_history.specs.EndState.{EndState, lane_at}
@@ -38,8 +38,8 @@ pub record IsQueued (queue : List (List ℕ)) (pos : ℕ) (body : List ℕ) : Ty
   pub same : body ≡ body_at queue pos
 
 pub record OrderKept (start : Start) (e : EndId) (l : ℕ) (steps : List Step) : Type 0 where
-  pub in_order : InOrder (receiving (start_of start e) e l steps).released
-  pub queued_there : AllByRecursion (λ item. IsQueued (queued (peer_of e) l steps) item.numbers.pos item.body) (receiving (start_of start e) e l steps).released
+  pub in_order : InOrder (receiving start e l steps).released
+  pub queued_there : AllByRecursion (λ item. IsQueued (queued start (peer_of e) l steps) item.numbers.pos item.body) (receiving start e l steps).released
 
 -- Number: the text that an aired frame carries
 abbrev pub text_aired : Sealing → EndStart → EndId → Airing → List ℕ
@@ -54,20 +54,24 @@ pub record IsSame (text : Sealing) (start : EndStart) (sender : EndId) (a b : Ai
 pub record NumbersKept (text : Sealing) (start : Start) (e : EndId) (steps : List Step) : Type 0 where
   -- no two bookings share key and packet number
   pub rule : OrderRule (booked e steps)
-  pub booked_queued : (lane : Lane) (n : Numbers) → Contains (list_of (booked e steps) lane) n → n.pos < length (queued e (lane_index lane) steps)
-  pub aired_booked : (a : Airing) → Contains (airings e steps) a → Contains (list_of (booked e steps) a.lane) a.numbers
-  pub one_text : (a b : Airing) → Contains (airings e steps) a → Contains (airings e steps) b
+  pub booked_queued : (lane : Lane) (n : Numbers) → Contains (list_of (booked e steps) lane) n → n.pos < length (queued start e (lane_index lane) steps)
+  pub aired_booked : (a : Airing) → Contains (airings start e steps) a → Contains (list_of (booked e steps) a.lane) a.numbers
+  pub one_text : (a b : Airing) → Contains (airings start e steps) a → Contains (airings start e steps) b
       → a.numbers.key ≡ b.numbers.key → a.numbers.pn ≡ b.numbers.pn → IsSame text (start_of start e) e a b
 
--- Link: a frame goes only to a link that its sender has set up and maps the lane to
-abbrev pub PutAllowed : Setup → ℕ → Outcome → Type 0
-PutAllowed setup link (outcomes.Put lane n retry) = is_set_up setup link ≡ true
-PutAllowed setup link (outcomes.PutAgain n retry) = is_set_up setup link ≡ true
-PutAllowed setup link other = Unit {0}
+-- Link: a frame goes only to a link that its sender has set up, where its radio is on, and to which its own agreed
+-- mapping maps the lane. The peer's mapping may be another one at the time.
+abbrev pub PutAllowed : EndId → Setup → ℕ → Outcome → Type 0
+PutAllowed e setup link (outcomes.Put lane n retry) = IsAllowed e setup lane link
+PutAllowed e setup link other = Unit {0}
+
+abbrev pub AgainAllowed : EndId → Setup → ℕ → Lane → Outcome → Type 0
+AgainAllowed e setup link lane (outcomes.PutAgain n retry) = IsAllowed e setup lane link
+AgainAllowed e setup link lane other = Unit {0}
 
 abbrev pub StepAllowed : Start → List Step → Command → Outcome → Type 0
-StepAllowed start before (commands.Put end link) outcome = PutAllowed (setup_of (start_of start end) end before) link outcome
-StepAllowed start before (commands.Again end link lane pos) outcome = PutAllowed (setup_of (start_of start end) end before) link outcome
+StepAllowed start before (commands.Put end link) outcome = PutAllowed end (setup_of start end before) link outcome
+StepAllowed start before (commands.Again end link lane pos) outcome = AgainAllowed end (setup_of start end before) link lane outcome
 StepAllowed start before other outcome = Unit {0}
 
 abbrev pub LinksKept : Start → List Step → Type 0
@@ -98,6 +102,7 @@ abbrev pub StepOpened : Sealing → AirState → Command → Outcome → Type 0
 StepOpened text a (commands.Deliver end link nth) outcome = HeardOpened text (end_of a end) (end_of a (peer_of end)) link (octets_heard text (commands.Deliver end link nth) a) outcome
 StepOpened text a (commands.Alter end link nth number) outcome = HeardOpened text (end_of a end) (end_of a (peer_of end)) link (octets_heard text (commands.Alter end link nth number) a) outcome
 StepOpened text a (commands.Forge end link lane key pn number body) outcome = HeardOpened text (end_of a end) (end_of a (peer_of end)) link (octets_heard text (commands.Forge end link lane key pn number body) a) outcome
+StepOpened text a (commands.Inject end link octets) outcome = HeardOpened text (end_of a end) (end_of a (peer_of end)) link (octets_heard text (commands.Inject end link octets) a) outcome
 StepOpened text a other outcome = Unit {0}
 
 -- by the state before each step

@@ -44,4 +44,4 @@ pub record Tells (text : Sealing) (start : EndStart) (e : EndId) (s : EndState) 
 -- The end's state has what the words say after these steps, for a sealer of this meaning.
 abbrev pub EndStands : Sealing → Start → EndId → EndState → List Step → Type 0
 EndStands text start e s steps =
-    Tells text (start_of start e) e s (λ l. queued e l steps) (booked e steps) (airings e steps) (λ l. receiving (start_of start e) e l steps) (send_key (start_of start e) e steps) (setup_of (start_of start e) e steps)
+    Tells text (start_of start e) e s (λ l. queued start e l steps) (booked e steps) (airings start e steps) (λ l. receiving start e l steps) (send_key (start_of start e) e steps) (setup_of start e steps)

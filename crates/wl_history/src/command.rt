@@ -1,10 +1,19 @@
 //! Commands.
 
-ghost use Rattle.std.specs.Prelude.{◌≡◌, ◌<◌, ◌^◌, IfOk};
+ghost use Rattle.std.specs.Prelude.{◌≡◌, ◌<◌, ◌^◌, true, IfOk};
+ghost use Rattle.wl_history.specs.Machines.{AreEntries, IsEntry};
 ghost use Rattle.wl_history.specs.Legal.{InRanges, InWord};
 
 use std::alloc::Global;
-use wl_elem::{Bytes, EndId, Lane, LinkId, Memory, Tid};
+use wl_elem::{Bytes, EndId, Lane, LinkId, List, Memory, Tid};
+use wl_message::{MapEntries, MapEntry, test_change};
+
+/// What an end may have asked its peer for.
+#[derive(Clone, Copy, Debug, PartialEq, Eq)]
+pub enum Machine {
+    /// New mappings of TIDs to links.
+    Map,
+}
 
 /// What an end is told to do. `end` is the end that acts; a frame that it hears comes from the other.
 #[derive(Debug, Drop)]
@@ -85,6 +94,15 @@ pub enum Command {
         /// The body, of 1 to 2,304 octets.
         body: Bytes,
     },
+    /// Hear any octets, as if they had come over a link.
+    Inject {
+        /// The receiver.
+        end: EndId,
+        /// The link.
+        link: LinkId,
+        /// The octets, at most 4,096.
+        octets: Bytes,
+    },
     /// Acknowledge what a lane has received.
     AckOut {
         /// The receiver.
@@ -125,6 +143,34 @@ pub enum Command {
         /// The sender.
         end: EndId,
     },
+    /// Switch the radio of a link on or off.
+    Power {
+        /// The end whose radio it is.
+        end: EndId,
+        /// The link.
+        link: LinkId,
+        /// Whether it is on from now on.
+        on: bool,
+    },
+    /// Ask the peer for new mappings of TIDs to links.
+    MapAsk {
+        /// The end that asks.
+        end: EndId,
+        /// What it asks for: at most two entries.
+        entries: MapEntries,
+    },
+    /// Tear the mappings of both directions down.
+    MapTeardown {
+        /// The end that does.
+        end: EndId,
+    },
+    /// Give an ask up that no reply was taken of.
+    GiveUp {
+        /// The end that asked.
+        end: EndId,
+        /// What it asked for.
+        what: Machine,
+    },
 }
 
 /// A number is one of 32 bits.
@@ -141,6 +187,22 @@ fn test_position(pos: u32)
 fn test_key(key: u16)
     ensures { key < 2 ^ 16 }
 {}
+
+/// The bitmaps of an entry are those of eight TIDs, of 16 bits each.
+fn test_entry(entry: &MapEntry) -> bool
+    ensures fits { IsEntry entry.now }
+    ensures holds { result ≡ true }
+{
+    test_change(&entry.change);
+    true
+}
+
+/// The same of each.
+fn test_entries(entries: &[MapEntry])
+    ensures { AreEntries entries.now }
+{
+    entries.iter().all(test_entry);
+}
 
 impl Command {
     /// Tells that the links that it names have IDs below 15, and the numbers 32 bits, as their types say.
@@ -167,6 +229,10 @@ impl Command {
                 link.get();
                 test_key(*key);
             }
+            Command::Inject { link, .. } | Command::Power { link, .. } => {
+                link.get();
+            }
+            Command::MapAsk { entries, .. } => test_entries(entries.as_slice()),
             Command::AckIn { nth, .. } => test_number(*nth),
             Command::BarOut { to, .. } => test_position(*to),
             Command::BarIn { nth, .. } => test_number(*nth),
@@ -256,6 +322,25 @@ impl Command {
             },
             Command::Install { end } => Command::Install { end: *end },
             Command::Turn { end } => Command::Turn { end: *end },
+            Command::Inject { end, link, octets } => Command::Inject {
+                end: *end,
+                link: *link,
+                octets: Bytes::from_slice(alloc, octets.as_slice())?,
+            },
+            Command::Power { end, link, on } => Command::Power {
+                end: *end,
+                link: *link,
+                on: *on,
+            },
+            Command::MapAsk { end, entries } => Command::MapAsk {
+                end: *end,
+                entries: List::from_slice(alloc, entries.as_slice())?,
+            },
+            Command::MapTeardown { end } => Command::MapTeardown { end: *end },
+            Command::GiveUp { end, what } => Command::GiveUp {
+                end: *end,
+                what: *what,
+            },
         })
     }
 }

@@ -1,6 +1,6 @@
 //! Laws of the definitions, each the contract of a function that does nothing.
 
-ghost use Rattle.std.specs.Prelude.{◌≡◌, ◌≢◌, ◌+◌, ◌<◌, ◌≤◌, ◌∷◌, ℕ, false, List, Option, Some, length, Result};
+ghost use Rattle.std.specs.Prelude.{◌≡◌, ◌≢◌, ◌+◌, ◌<◌, ◌≤◌, ◌∷◌, [], ℕ, Bool, false, List, Option, Some, length, Result};
 ghost use Rattle.std.specs.List.{Contains};
 ghost use Rattle.wl_elem.specs.Element.{msdu_limit};
 ghost use Rattle.wl_elem.specs.declared.fault.Refusal.{Refusal};
@@ -14,25 +14,33 @@ ghost use Rattle.wl_number.specs.declared.numbers.Numbers.{Numbers};
 ghost use Rattle.wl_number.specs.NumberObject.{drawn};
 ghost use Rattle.wl_number.specs.OrderRule.{OrderRule, list_of};
 ghost use Rattle.wl_window.specs.Originating.{is_done};
-ghost use Rattle.wl_window.specs.Reordering.{Arrived, Moved};
+ghost use Rattle.wl_window.specs.Reordering.{Moved, Stored as CameStored, arrived};
+ghost use Rattle.wl_elem.specs.declared.lane.Lane.TheVariants.{Management};
 ghost use Rattle.wl_history.specs.declared.ack.Ack.{Ack};
 ghost use Rattle.wl_history.specs.declared.arrival.Arrival.{Arrival};
 ghost use Rattle.wl_history.specs.declared.command.Command.{Command};
 ghost use Rattle.wl_history.specs.declared.command.Command.TheVariants.{Turn};
 ghost use Rattle.wl_history.specs.declared.hand.Hand.TheVariants.{Empty, Reserve, Booking};
 ghost use Rattle.wl_history.specs.declared.outcome.Outcome.{Outcome};
-ghost use Rattle.wl_history.specs.declared.outcome.Outcome.TheVariants.{Reserved, Spent, Booked, Turned};
+ghost use Rattle.wl_history.specs.declared.outcome.Outcome.TheVariants.{Asked, Reserved, Spent, Booked, Stored, Turned};
+ghost use Rattle.wl_message.specs.declared.message.Message.TheVariants.{MapAsk};
+ghost use Rattle.wl_message.specs.declared.message.Message.{Message};
+ghost use Rattle.wl_message.specs.Message.{changes_of, message_octets, IsMessage};
 ghost use Rattle.wl_history.specs.declared.setup.Setup.{Setup};
 ghost use Rattle.wl_history.specs.declared.start.EndStart.{EndStart};
 ghost use Rattle.wl_history.specs.declared.start.Start.{Start};
 ghost use Rattle.wl_history.specs.declared.step.Step.{Step};
-ghost use Rattle.wl_history.specs.Below.{NumberLaws, WindowLaws};
+ghost use Rattle.wl_history.specs.Below.{MessageLaws, NumberLaws, WindowLaws};
 ghost use Rattle.wl_history.specs.Hands.{hand_of};
 ghost use Rattle.wl_history.specs.Answers.{at_position};
-ghost use Rattle.wl_history.specs.Ends.{start_of};
+ghost use Rattle.wl_message.specs.declared.changes.MapEntry.{MapEntry};
+ghost use Rattle.wl_history.specs.declared.ack.Bar.{Bar};
+ghost use Rattle.wl_history.specs.declared.command.Machine.{Machine};
+ghost use Rattle.wl_history.specs.Machines.{AreEntries, IsBodyOn, given, map_ask_answer, map_asked, map_torn, switched};
+ghost use Rattle.wl_history.specs.Ends.{receive_size, start_of};
 ghost use Rattle.wl_history.specs.Hearing.{Answered, Closed, IsClosed, ToOpen, judged, with_number};
 ghost use Rattle.wl_history.specs.Words.{Airing, airings, send_key};
-ghost use Rattle.wl_history.specs.EndState.{EndState, IsEnd, lane_at, started, with_hand, with_frame, after_queue, after_reserve, after_book, after_arrived, after_ack, after_bar_out, after_moved, after_install, after_turn};
+ghost use Rattle.wl_history.specs.EndState.{EndState, IsEnd, lane_at, management, started, with_hand, with_frame, with_made, with_moved, moved_by, after_queue, after_reserve, after_book, hear_answer, after_hear, after_told, after_ack, after_bar_out, after_moved, after_install, after_turn};
 ghost use Rattle.wl_history.specs.AirState.{AirState, end_of, state_of};
 ghost use Rattle.wl_history.specs.Plain.{IsPlain};
 ghost use Rattle.wl_history.specs.Legal.{IsAnswer, Legal};
@@ -42,16 +50,20 @@ ghost use Rattle.wl_history.specs.Safe.{Safe, text_aired};
 ghost use Rattle.wl_history.specs.Sent.{Airs};
 
 use wl_frame::read_once;
+use wl_message::{a_message_is_read, a_message_is_short};
 use wl_number::{
     a_draw_is_next, booked_once, highest_breaks_none, in_pair_order, pairs_in_order, stands_exactly,
 };
 use wl_window::{booked_after_ack, booked_after_booking, booked_after_giving_up};
 
-/// What the crates below say of bookings, and of windows that send.
+/// What the crates below say of bookings, of windows that send, and of messages.
 fn laws_below()
     ensures numbers { NumberLaws }
     ensures windows { WindowLaws }
+    ensures messages { MessageLaws }
 {
+    a_message_is_read();
+    a_message_is_short();
     stands_exactly();
     highest_breaks_none();
     a_draw_is_next();
@@ -65,22 +77,42 @@ fn laws_below()
 /// numbers that come next and leave no position out, each reserve and each booking is of a queued body,
 /// hands hold what is booked, and windows keep to the sizes and the room that they may have.
 pub fn an_end_keeps()
-    ensures queue { (s : EndState) (l : ℕ) (body : List ℕ) → IsEnd s → length body ≤ msdu_limit → IsEnd (after_queue l body s) }
+    ensures queue { (s : EndState) (l : ℕ) (body : List ℕ) → IsEnd s → length body ≤ msdu_limit → l ≢ management → IsEnd (after_queue l body s) }
+    ensures message { (s : EndState) (m : Message) → IsEnd s → IsMessage m → IsEnd (after_queue management (message_octets m) s) }
     ensures reserve { (s : EndState) (thread : ℕ) (lane : Lane) → IsEnd s → IsLane lane → hand_of s.hands thread ≡ Empty → (lane_at s (lane_index lane)).sending.granted ≢ length (lane_at s (lane_index lane)).queue → IsEnd (after_reserve thread lane Reserved s) }
     ensures give_back { (s : EndState) (thread : ℕ) (lane : Lane) → IsEnd s → hand_of s.hands thread ≡ Reserve lane → IsEnd (after_book thread (Spent lane) s) }
     ensures book { (s : EndState) (thread : ℕ) (lane : Lane) → IsEnd s → hand_of s.hands thread ≡ Reserve lane → IsEnd (after_book thread (Booked lane (drawn s.numbers lane)) s) }
     ensures put_down { (s : EndState) (thread : ℕ) (lane : Lane) (n : Numbers) → IsEnd s → hand_of s.hands thread ≡ Booking lane n → IsEnd (with_hand thread Empty s) }
     ensures frame { (s : EndState) (lane : Lane) (n : Numbers) (link : ℕ) (octets : List ℕ) → IsEnd s → IsEnd (with_frame link octets lane n s) }
-    ensures hear { (s : EndState) (lane : Lane) (come : Arrived Arrival) → IsEnd s → IsEnd (after_arrived lane come s) }
+    ensures hear { (s : EndState) (lane : Lane) (number : ℕ) (a : Arrival) → IsEnd s → IsBodyOn lane a.body → IsEnd (after_hear lane number (receive_size s.setup (lane_index lane)) a s) }
+    ensures store { (s : EndState) (lane : Lane) (number : ℕ) (a : Arrival) (moved : Moved Arrival) → IsEnd s → arrived (lane_at s (lane_index lane)).window number (receive_size s.setup (lane_index lane)) a ≡ CameStored moved → IsEnd (with_moved lane moved s) }
+    ensures tell { (s : EndState) (lane : Lane) (body : List ℕ) → IsEnd s → IsBodyOn lane body → IsEnd (after_told lane body s) }
     ensures ack { (ack : Ack) (s : EndState) → IsEnd s → IsEnd (after_ack ack s) }
     ensures give_up { (lane : Lane) (to : ℕ) (s : EndState) → IsEnd s → IsEnd (after_bar_out lane to s) }
-    ensures pass { (lane : Lane) (moved : Option (Moved Arrival)) (s : EndState) → IsEnd s → IsEnd (after_moved lane moved s) }
+    ensures pass { (bar : Bar) (s : EndState) → IsEnd s → IsEnd (after_moved bar.lane (moved_by bar s) s) }
     ensures install { (o : Outcome) (s : EndState) → IsEnd s → IsEnd (after_install o s) }
+    ensures power { (link : ℕ) (on : Bool) (s : EndState) → IsEnd s → IsEnd (with_made (switched link on s.setup) s) }
+    ensures map_ask { (entries : List MapEntry) (s : EndState) → IsEnd s → AreEntries entries → IsEnd (with_made (map_asked entries (map_ask_answer entries s.setup) s.setup) s) }
+    ensures map_teardown { (o : Outcome) (s : EndState) → IsEnd s → IsEnd (with_made (map_torn o s.setup) s) }
+    ensures machine_given { (what : Machine) (o : Outcome) (s : EndState) → IsEnd s → IsEnd (with_made (given what o s.setup) s) }
     ensures turn { (o : Outcome) (s : EndState) → IsEnd s → IsEnd (after_turn o s) }
     ensures start { (start : EndStart) → 1 ≤ start.window → start.window ≤ 256 → IsEnd (started start) }
 {
     laws_below()
 }
+
+/// A request for mappings that an end makes has octets: its token is one of an octet, it names a direction, and
+/// its bitmaps are those of eight TIDs.
+pub fn an_asked_mapping_is_a_message()
+    ensures { (setup : Setup) (entries : List MapEntry) (token : ℕ) → AreEntries entries → setup.token < 256 → map_ask_answer entries setup ≡ Asked token → IsMessage (MapAsk token (changes_of entries)) }
+{}
+
+/// What an end stores of management it releases in the same step, that body alone, since the window of management has
+/// room for one. So a message of the peer acts where it is stored.
+pub fn management_goes_up_at_once()
+    ensures { (s : EndState) (number : ℕ) (item : Arrival) (lane : Lane) (heard : ℕ) (n : Numbers) (up : List ℕ) → IsEnd s
+        → hear_answer Management number (receive_size s.setup management) item s ≡ Stored lane heard n up → up ≡ item.numbers.pos ∷ [] }
+{}
 
 /// The state that a legal history leaves has what the words of the history say: what each end queued,
 /// booked, aired and released, the key that it sends under, and what it has set up.
@@ -148,7 +180,7 @@ pub fn what_is_done_stays_down()
 /// A retry is the same: all frames that an end airs of a position carry one key number, one packet number
 /// and one sealed text, whatever links they go over and whatever key is sent under by then.
 pub fn a_retry_is_the_same()
-    ensures { (text : Sealing) (start : Start) (steps : List Step) → Legal text start steps → (e : EndId) (a b : Airing) → Contains (airings e steps) a → Contains (airings e steps) b
+    ensures { (text : Sealing) (start : Start) (steps : List Step) → Legal text start steps → (e : EndId) (a b : Airing) → Contains (airings start e steps) a → Contains (airings start e steps) b
         → a.lane ≡ b.lane → a.numbers.pos ≡ b.numbers.pos → (a.numbers ≡ b.numbers) × (text_aired text (start_of start e) e a ≡ text_aired text (start_of start e) e b) }
 {
     laws_below();

@@ -12,6 +12,10 @@ use wl_number::Numbers;
 pub enum KeptWhy {
     /// The link isn't set up at the sender.
     NotSetUp,
+    /// The sender's radio is off on the link.
+    Unpowered,
+    /// The sender's agreed mapping doesn't map the lane to the link.
+    Unmapped,
 }
 
 /// What a command is answered.
@@ -85,7 +89,7 @@ pub enum Outcome {
         /// Its place in the octets.
         place: u32,
     },
-    /// The link isn't set up at the receiver.
+    /// The receiver's radio is off on the link, or the link isn't set up there.
     LinkDown,
     /// An association frame of no use.
     Ignored,
@@ -156,6 +160,27 @@ pub enum Outcome {
     },
     /// The key is the last one, 65,535: there is none after it.
     KeysSpent,
+    /// The radio was switched.
+    Set,
+    /// A request was queued for the peer.
+    Asked {
+        /// Its token.
+        token: u8,
+    },
+    /// An own request stands.
+    Busy {
+        /// Its token.
+        token: u8,
+    },
+    /// What is to be asked for isn't valid, or no link is set up.
+    NotValid,
+    /// A message that no reply is awaited to was queued for the peer.
+    Sent,
+    /// The own request was given up.
+    Given {
+        /// Its token.
+        token: u8,
+    },
 }
 
 impl Outcome {
@@ -220,6 +245,12 @@ impl Outcome {
             Outcome::Installed { key } => Outcome::Installed { key: *key },
             Outcome::Turned { key } => Outcome::Turned { key: *key },
             Outcome::KeysSpent => Outcome::KeysSpent,
+            Outcome::Set => Outcome::Set,
+            Outcome::Asked { token } => Outcome::Asked { token: *token },
+            Outcome::Busy { token } => Outcome::Busy { token: *token },
+            Outcome::NotValid => Outcome::NotValid,
+            Outcome::Sent => Outcome::Sent,
+            Outcome::Given { token } => Outcome::Given { token: *token },
         }
     }
 

@@ -1,9 +1,10 @@
 -- What each call keeps of an end's mappings.
 use Rattle.std.proofs.Common.{inl, inr, ◌≡◌, ℕ, ◌<◌, List, [], ◌∷◌, Option, None, Some, Bool, true, false, refl, sym, ap, ◌∙◌, arith, subst, not, bit_and, eq-eqb, eqb-true, get_or}
-use Rattle.std.specs.Prelude.{◌==◌, ◌&&◌, ◌≢◌, if◌then◌else◌, All, is_some, is_none}
+use Rattle.std.specs.Prelude.{◌==◌, ◌&&◌, ◌||◌, ◌≢◌, if◌then◌else◌, All, is_some, is_none}
 use Rattle.std.specs.Int.Bits.{and_self, and_zero_r}
 use Rattle.std.proofs.lemmas.Nat.{and_le_r}
 use Rattle.std.proofs.lemmas.List.Sums.{AllPass-from_list_all}
+use Rattle.std.proofs.lemmas.Bool.{and_parts}
 use Rattle.std.proofs.lemmas.Bool.Decides.{eqb_tells}
 use Rattle.wl_elem.specs.declared.lane.Direction.{Direction}
 use Rattle.wl_elem.specs.declared.lane.Direction.TheVariants.{Down, Up}
@@ -16,7 +17,7 @@ use Rattle.wl_map.specs.declared.change.MapAsk.{MapAsk}
 use Rattle.wl_map.specs.Agreeing.{IsAgreed, kept, has_empty, cut_to, of_sets, sets_of, becomes, becomes_cut, is_valid_if, changed}
 use Rattle.wl_map.specs.Ends.{MapState, IsMapState, made, opened, of_direction, is_valid_ask, after_ask, accepts, status_of, after_on_ask, is_asked, takes_reply, closed, adopted, replied, after_reply}
 use Rattle.wl_map.specs.Calls.{Call, Asks, IsAsked, IsReplied, TearsDown, IsTornDown, GivesUp, HasLinks, IsCall, AreCalls, after, after_calls}
-use Rattle.wl_map.proofs.Sets.{kept_passes, becomes_same, valid_both, valid_left, valid_right}
+use Rattle.wl_map.proofs.Sets.{kept_passes, becomes_same}
 
 pub if_true : (b : Bool) (s t : MapState) → b ≡ true → (if b then s else t) ≡ s
 if_true true s t h = refl
@@ -32,9 +33,9 @@ pub accepted : (deny : Bool) (links : ℕ) (down up : Agreed) (asked : Option Ma
 accepted true links down up asked ask none takes valid = absurd (cc)
 accepted false links down up (Some own) ask none takes valid = absurd (cc)
 accepted false links down up None ask none takes valid =
-    let both = valid_both (is_some ask.down) (is_some ask.up) _ valid in
-    let one : becomes_cut links down ask.down ≡ becomes links down ask.down = becomes_same links down ask.down (valid_left _ _ both) in
-    let other : becomes_cut links up ask.up ≡ becomes links up ask.up = becomes_same links up ask.up (valid_right (is_valid_if links down ask.down) _ both) in
+    let both = (and_parts (is_some ask.down || is_some ask.up) _ valid).1 in
+    let one : becomes_cut links down ask.down ≡ becomes links down ask.down = becomes_same links down ask.down (and_parts _ _ both).0 in
+    let other : becomes_cut links up ask.up ≡ becomes links up ask.up = becomes_same links up ask.up (and_parts (is_valid_if links down ask.down) _ both).1 in
     ap (λ (a : Agreed). made false links a (becomes_cut links up ask.up) None) one
     ∙ ap (λ (a : Agreed). made false links (becomes links down ask.down) a None) other
     ∙ sym (if_true _ _ _ valid)
@@ -71,12 +72,12 @@ replied_is (Some own) s status is =
 answered_is : (s : MapState) (ask : MapAsk) → IsMapState s → IsMapState (after_on_ask s ask)
 answered_is s ask is =
     either_state IsMapState (accepts s ask) _ s (λ takes.
-    let valid : is_valid_ask s ask ≡ true = valid_right (not s.deny) _ (valid_right (is_none s.asked) _ takes) in
-    let both = valid_both (is_some ask.down) (is_some ask.up) _ valid in
+    let valid : is_valid_ask s ask ≡ true = (and_parts (not s.deny) _ (and_parts (is_none s.asked) _ takes).1).1 in
+    let both = (and_parts (is_some ask.down || is_some ask.up) _ valid).1 in
     record {
       links = is.links;
-      down = becomes_is s.links s.down ask.down is.down (valid_left _ _ both);
-      up = becomes_is s.links s.up ask.up is.up (valid_right (is_valid_if s.links s.down ask.down) _ both);
+      down = becomes_is s.links s.down ask.down is.down (and_parts _ _ both).0;
+      up = becomes_is s.links s.up ask.up is.up (and_parts (is_valid_if s.links s.down ask.down) _ both).1;
     }) is
 
 -- each call keeps what is true of an end's mappings
@@ -167,16 +168,16 @@ same_change links others before alike change same is valid =
 same_direction : (asker answerer : MapState) (ask : MapAsk) (d : Direction) → is_valid_ask answerer ask ≡ true → asker.links ≡ answerer.links → of_direction d asker ≡ of_direction d answerer
     → of_direction d (adopted asker ask) ≡ of_direction d (made answerer.deny answerer.links (becomes answerer.links answerer.down ask.down) (becomes answerer.links answerer.up ask.up) answerer.asked)
 same_direction asker answerer ask Down valid same alike =
-    same_change asker.links answerer.links asker.down answerer.down ask.down same alike (valid_left _ _ (valid_both (is_some ask.down) (is_some ask.up) _ valid))
+    same_change asker.links answerer.links asker.down answerer.down ask.down same alike (and_parts _ _ (and_parts (is_some ask.down || is_some ask.up) _ valid).1).0
 same_direction asker answerer ask Up valid same alike =
-    same_change asker.links answerer.links asker.up answerer.up ask.up same alike (valid_right (is_valid_if answerer.links answerer.down ask.down) _ (valid_both (is_some ask.down) (is_some ask.up) _ valid))
+    same_change asker.links answerer.links asker.up answerer.up ask.up same alike (and_parts (is_valid_if answerer.links answerer.down ask.down) _ (and_parts (is_some ask.down || is_some ask.up) _ valid).1).1
 
 pub both_agree : (asker answerer : MapState) (ask : MapAsk) (d : Direction) → asker.asked ≡ Some ask → status_of answerer ask ≡ 0
     → asker.links ≡ answerer.links → of_direction d asker ≡ of_direction d answerer
     → of_direction d (after_reply asker ask.token 0) ≡ of_direction d (after_on_ask answerer ask)
 both_agree asker answerer ask d standing success same alike =
     let takes : accepts answerer ask ≡ true = taken_of (accepts answerer ask) (status_of answerer ask) refl success in
-    let valid : is_valid_ask answerer ask ≡ true = valid_right (not answerer.deny) _ (valid_right (is_none answerer.asked) _ takes) in
+    let valid : is_valid_ask answerer ask ≡ true = (and_parts (not answerer.deny) _ (and_parts (is_none answerer.asked) _ takes).1).1 in
     ap (of_direction d) (reply_adopts asker.asked asker ask standing)
     ∙ same_direction asker answerer ask d valid same alike
     ∙ sym (ap (of_direction d) (if_true (accepts answerer ask) _ answerer takes))
@@ -185,7 +186,7 @@ both_agree asker answerer ask d standing success same alike =
 pub passed_low : (links : ℕ) (sets : List ℕ) → links < set_limit → is_mapping links sets ≡ true → All (λ set. set < set_limit) sets
 passed_low links sets low passes k d inside =
     let here : is_tid_set links (get_or sets k d) ≡ true = AllPass-from_list_all (is_tid_set links) sets passes k d inside in
-    let same : bit_and (get_or sets k d) links ≡ get_or sets k d = eqb-true _ _ (valid_right (not (get_or sets k d == 0)) _ here) in
+    let same : bit_and (get_or sets k d) links ≡ get_or sets k d = eqb-true _ _ (and_parts (not (get_or sets k d == 0)) _ here).1 in
     omega (arith, same, and_le_r (get_or sets k d) links)
 
 other_way : (set : ℕ) → (set ≡ 0 → ⊥) → (0 == set) ≡ false

@@ -2,6 +2,7 @@
 use Rattle.std.proofs.Common.{◌≡◌, ℕ, zero, suc, ◌+◌, ◌<◌, ◌≤◌, List, [], ◌∷◌, ◌++◌, length, take, get_or, set, Option, None, Some, Bool, true, false, refl, sym, ap, ◌∙◌, arith, bit_and, eq-eqb, eqb-true, not}
 use Rattle.std.specs.Prelude.{unwrap_or, zip, replicate, ◌==◌, ◌&&◌, ◌||◌, if◌then◌else◌}
 use Rattle.std.specs.Int.Bits.{and_self}
+use Rattle.std.proofs.lemmas.Bool.{and_parts}
 use Rattle.std.proofs.lemmas.Nat.{and_assoc}
 use Rattle.std.proofs.lemmas.List.{take_all, get_or-map, length-map}
 use Rattle.std.proofs.lemmas.List.{take_more_set, take_more}
@@ -89,20 +90,12 @@ cut_sets links sets mapping is passes =
     let full : not (has_empty (kept links sets)) ≡ true = sym (kept_passes links sets) ∙ ap (is_mapping links) (sym is) ∙ passes in
     ap of_sets is ∙ or_else (has_empty (kept links sets)) agreed.Default (of_sets (kept links sets)) full
 
-first_of_both : (a b : Bool) → (a && b) ≡ true → a ≡ true
-first_of_both true b h = refl
-first_of_both false b h = h
-
-second_of_both : (a b : Bool) → (a && b) ≡ true → b ≡ true
-second_of_both true b h = h
-second_of_both false b h = absurd (cc)
-
 -- a mapping over the links has no others to cut
 pub all_kept : (links : ℕ) (sets : List ℕ) → is_mapping links sets ≡ true → kept links sets ≡ sets
 all_kept links [] valid = refl
 all_kept links (set ∷ sets) valid =
-    let here : bit_and set links ≡ set = eqb-true _ _ (second_of_both (not (set == 0)) _ (first_of_both (is_tid_set links set) _ valid)) in
-    let rest : kept links sets ≡ sets = all_kept links sets (second_of_both (is_tid_set links set) _ valid) in
+    let here : bit_and set links ≡ set = eqb-true _ _ (and_parts (not (set == 0)) _ (and_parts (is_tid_set links set) _ valid).0).1 in
+    let rest : kept links sets ≡ sets = all_kept links sets (and_parts (is_tid_set links set) _ valid).1 in
     ap (λ (one : ℕ). one ∷ kept links sets) here ∙ ap (λ (others : List ℕ). set ∷ others) rest
 
 pub valid_is_cut : (links : ℕ) (sets : List ℕ) → is_mapping links sets ≡ true → cut links sets ≡ of_sets sets
@@ -115,12 +108,3 @@ pub becomes_same : (links : ℕ) (before : Agreed) (change : Option Change) → 
 becomes_same links before None valid = refl
 becomes_same links before (Some changes.Default) valid = refl
 becomes_same links before (Some (changes.Sets maps)) valid = valid_is_cut links (named maps (sets_of links before)) valid
-
-pub valid_both : (a b c : Bool) → ((a || b) && c) ≡ true → c ≡ true
-valid_both a b c valid = second_of_both (a || b) c valid
-
-pub valid_left : (a b : Bool) → (a && b) ≡ true → a ≡ true
-valid_left = first_of_both
-
-pub valid_right : (a b : Bool) → (a && b) ≡ true → b ≡ true
-valid_right = second_of_both

@@ -1,8 +1,10 @@
 -- What an end reports of its state is what the words of its history say, and they say one thing.
 use Rattle.std.proofs.Common.{◌≡◌, ℕ, zero, suc, ◌+◌, ◌<◌, List, [], ◌∷◌, ◌++◌, length, drop, get_or, refl, sym, ap, ◌∙◌, append_assoc, arith}
+use Rattle.wl_elem.specs.declared.lane.Direction.TheVariants.{Down, Up}
 use Rattle.wl_elem.specs.declared.lane.EndId.{EndId}
 use Rattle.wl_frame.specs.Sealing.{Sealing}
 use Rattle.wl_number.specs.Bookings.{booking_count}
+use Rattle.wl_map.specs.Ends.{agreed_sets}
 use Rattle.wl_history.specs.declared.setup.Setup.{Setup}
 use Rattle.wl_history.specs.declared.start.EndStart.{EndStart}
 use Rattle.wl_history.specs.declared.start.Start.{Start}
@@ -13,7 +15,7 @@ use Rattle.wl_history.specs.Stands.{EndStands, octets_all, positions_of}
 use Rattle.wl_history.specs.Words.{Airing, airings, airings_on, queued, receiving}
 use Rattle.wl_end.specs.Parts.{frame_count}
 use Rattle.wl_scene.specs.declared.totals.Totals.{Totals}
-use Rattle.wl_scene.specs.Account.{per_lane, on_all, sum_below, IsTotals, Reports}
+use Rattle.wl_scene.specs.Account.{per_lane, sum_below, IsTotals, Reports}
 
 -- ---- lanes in order
 
@@ -53,11 +55,11 @@ octets_all-length : (text : Sealing) (start : EndStart) (e : EndId) (list : List
 octets_all-length text start e [] = refl
 octets_all-length text start e (airing ∷ list) = ap suc (octets_all-length text start e list)
 
-aired_is : (text : Sealing) (start : Start) (e : EndId) (s : EndState) (steps : List Step) → IsEnd s → EndStands text start e s steps → frame_count s.frames ≡ sum_below 15 (λ link. length (airings_on link (airings e steps)))
+aired_is : (text : Sealing) (start : Start) (e : EndId) (s : EndState) (steps : List Step) → IsEnd s → EndStands text start e s steps → frame_count s.frames ≡ sum_below 15 (λ link. length (airings_on link (airings start e steps)))
 aired_is text start e s steps is_end stands =
     frame_count-sum s.frames ∙ ap (λ (n : ℕ). sum_below n (λ k. length (get_or s.frames k []))) is_end.fifteen
-    ∙ sum_below-same 15 (λ k. length (get_or s.frames k [])) (λ k. length (airings_on k (airings e steps)))
-    (λ k lt. ap length (stands.frames k lt) ∙ octets_all-length text (start_of start e) e (airings_on k (airings e steps)))
+    ∙ sum_below-same 15 (λ k. length (get_or s.frames k [])) (λ k. length (airings_on k (airings start e steps)))
+    (λ k lt. ap length (stands.frames k lt) ∙ octets_all-length text (start_of start e) e (airings_on k (airings start e steps)))
 
 -- ---- the report
 
@@ -68,11 +70,11 @@ reports text start e s steps t is_end stands is = record {
   emlsr = is.emlsr;
   key = is.key ∙ stands.key_is;
   links = is.links ∙ ap (λ (x : Setup). x.links) stands.setup_is;
-  dl = is.dl;
-  ul = is.ul;
+  dl = is.dl ∙ ap (λ (x : Setup). agreed_sets Down x.maps) stands.setup_is;
+  ul = is.ul ∙ ap (λ (x : Setup). agreed_sets Up x.maps) stands.setup_is;
   newest = is.newest ∙ ap (λ (x : Setup). x.keys) stands.setup_is;
-  queued = is.queued ∙ per_lane-same (λ l. length (lane_at s l).queue) (λ l. length (queued e l steps)) (λ l lt. ap length (stands.lanes l lt).queue_is);
-  released = is.released ∙ per_lane-same (λ l. (lane_at s l).released) (λ l. positions_of (receiving (start_of start e) e l steps).released) (λ l lt. (stands.lanes l lt).released);
+  queued = is.queued ∙ per_lane-same (λ l. length (lane_at s l).queue) (λ l. length (queued start e l steps)) (λ l lt. ap length (stands.lanes l lt).queue_is);
+  released = is.released ∙ per_lane-same (λ l. (lane_at s l).released) (λ l. positions_of (receiving start e l steps).released) (λ l lt. (stands.lanes l lt).released);
 }
 
 -- ---- one report
@@ -93,6 +95,5 @@ same_totals t u aired booked emlsr key links dl ul newest queued released = λ i
 
 pub once : (start : Start) (e : EndId) (steps : List Step) (t u : Totals) → Reports start e steps t → Reports start e steps u → t ≡ u
 once start e steps t u a b =
-    let links : t.links ≡ u.links = a.links ∙ sym b.links in
-    same_totals t u (a.aired ∙ sym b.aired) (a.booked ∙ sym b.booked) (a.emlsr ∙ sym b.emlsr) (a.key ∙ sym b.key) links (a.dl ∙ ap on_all links ∙ sym b.dl) (a.ul ∙ ap on_all links ∙ sym b.ul)
+    same_totals t u (a.aired ∙ sym b.aired) (a.booked ∙ sym b.booked) (a.emlsr ∙ sym b.emlsr) (a.key ∙ sym b.key) (a.links ∙ sym b.links) (a.dl ∙ sym b.dl) (a.ul ∙ sym b.ul)
     (a.newest ∙ sym b.newest) (a.queued ∙ sym b.queued) (a.released ∙ sym b.released)

@@ -1,6 +1,6 @@
 -- A name among names, looked for from the front.
-use Rattle.std.proofs.Common.{◌≡◌, ℕ, ◌+◌, ◌<◌, ◌≤◌, Bool, true, false, ◌||◌, List, [], ◌∷◌, map, length, get_or, drop, Bor, String, Global, string_bytes, ◌&&◌, bytes_eq, refl, sym, ap, ◌∙◌, add-one, drop-cons}
-use Rattle.std.proofs.lemmas.List.{drop_all}
+use Rattle.std.proofs.Common.{◌≡◌, ℕ, ◌+◌, ◌<◌, ◌≤◌, Bool, true, false, ◌||◌, List, [], ◌∷◌, map, length, get_or, drop, Bor, String, Global, string_bytes, ◌&&◌, bytes_eq, refl, sym, ap, ◌∙◌}
+use Rattle.std.proofs.lemmas.List.{drop_all, at_drop_more}
 use Rattle.std.specs.Map.{keys_of}
 use Rattle.serde_json.specs.View.{members_view}
 use Rattle.serde_json.specs.declared.value.Value.{Value}
@@ -13,7 +13,7 @@ abbrev pub among : List ℕ → Names → Bool
 among name names = is_among name (map (λ n. n.now) names)
 
 at_front : (name : List ℕ) (names : Names) (i : ℕ) (d : Bor (List ℕ)) → i < length names → among name (drop i names) ≡ (bytes_eq name (get_or names i d).now || among name (drop (i + 1) names))
-at_front name names i d within = let front : drop i names ≡ get_or names i d ∷ drop (i + 1) names = rw add-one (drop-cons names i d within) in ap (among name) front
+at_front name names i d within = at_drop_more (among name) names i d within
 
 pub is_there : (name : List ℕ) (names : Names) (i : ℕ) (d : Bor (List ℕ)) → i < length names → among name names ≡ among name (drop i names) → bytes_eq name (get_or names i d).now ≡ true → true ≡ among name names
 is_there name names i d within so_far same = sym (so_far ∙ at_front name names i d within ∙ ap (λ (b : Bool). b || among name (drop (i + 1) names)) same)

@@ -1,8 +1,7 @@
 -- How many commands a value counts as, how many places it has, and how many things it asks for.
-use Rattle.std.proofs.Common.{◌≡◌, ℕ, zero, suc, ◌+◌, ◌*◌, ◌<◌, ◌≤◌, ◌&&◌, nat_le, Bool, true, false, if◌then◌else◌, List, [], ◌∷◌, length, get_or, drop, min, Option, Some, None, Result, Ok, Err, codes, refl, sym, ap, ◌∙◌, add-one, drop-cons, length-append, arith}
+use Rattle.std.proofs.Common.{◌≡◌, ℕ, zero, suc, ◌+◌, ◌*◌, ◌<◌, ◌≤◌, ◌&&◌, nat_le, Bool, true, false, if◌then◌else◌, List, [], ◌∷◌, length, get_or, drop, min, Option, Some, None, Result, Ok, Err, codes, refl, sym, ap, ◌∙◌, length-append, arith}
 use Rattle.std.specs.Prelude.{option_and_then}
-use Rattle.std.proofs.lemmas.Bool.Decides.{nat_tests}
-use Rattle.std.proofs.lemmas.List.{drop_all}
+use Rattle.std.proofs.lemmas.List.{at_drop_more}
 use Rattle.serde_json.specs.Data.{Data, Items, no_items, item}
 use Rattle.serde_json.specs.Events.{items_len}
 use Rattle.serde_json.specs.View.{view, items_view}
@@ -13,7 +12,9 @@ use Rattle.wl_history.specs.declared.script.Item.{Item}
 use Rattle.wl_history.specs.declared.start.LinkStart.{LinkStart}
 use Rattle.wl_history.specs.Scripts.{times_of, body_of, repeated}
 use Rattle.wl_scene.specs.Members.{has_only, in_range, whole_at, list_at}
-use Rattle.wl_scene.specs.Commands.{command_of, times_at, before_plains, plains_of, looped, loop_from, loop_of, once_from, item_of, places_of, is_loop, loop_count, count_of, count_all}
+use Rattle.wl_scene.specs.Commands.{command_of}
+use Rattle.wl_scene.specs.Items.{times_at, before_plains, plains_of, looped, loop_from, loop_of, once_from, item_of, places_of, is_loop, loop_count, count_of, count_all}
+use Rattle.wl_scene.proofs.Found.{tells}
 
 -- ---- one value
 
@@ -59,12 +60,9 @@ ranged_some true true n is = is refl
 ranged_some true false n is = tt
 ranged_some false high n is = tt
 
-tells_one : (n : ℕ) → nat_le 1 n ≡ true → 1 ≤ n
-tells_one n h = grind (arith, nat_tests)
-
 times_from : (x : Option ℕ) → SomeTimes (option_and_then (in_range 1 65536) x)
 times_from None = tt
-times_from (Some n) = ranged_some (nat_le 1 n) (nat_le n 65536) n (tells_one n)
+times_from (Some n) = ranged_some (nat_le 1 n) (nat_le n 65536) n (tells 1 n)
 
 loop_from_counted : (links : List LinkStart) (times : Option ℕ) (ds : Option Items) → SomeTimes times → Counted (loop_from links times ds) (loop_count times ds)
 loop_from_counted links (Some times) (Some ds) some = looped_counted times (plains_of links ds) (items_len ds) some (plains_counted links ds)
@@ -102,36 +100,20 @@ place_within links d place is = let all = counted links d in rw is at all
 places_within : (links : List LinkStart) (d : Data) (one : Item) → item_of links d ≡ Ok one → places_of one ≤ suc (count_of d)
 places_within links d one is = let all = counted links d in (rw is at all).0
 
-front : (values : List Value) (i : ℕ) (d : Value) → i < length values → count_all (items_view (drop i values)) ≡ count_of (view (get_or values i d)) + count_all (items_view (drop (i + 1) values))
-front values i d within = let first : drop i values ≡ get_or values i d ∷ drop (i + 1) values = rw add-one (drop-cons values i d within) in ap (λ (left : List Value). count_all (items_view left)) first
+counted_first : (values : List Value) (i : ℕ) (d : Value) → i < length values → count_all (items_view (drop i values)) ≡ count_of (view (get_or values i d)) + count_all (items_view (drop (i + 1) values))
+counted_first values i d within = at_drop_more (λ (left : List Value). count_all (items_view left)) values i d within
 
 -- the places so far, and what is left to count
 pub before_place : (links : List LinkStart) (values : List Value) (i : ℕ) (d : Value) (before place : ℕ) → i < length values → before + count_all (items_view (drop i values)) ≤ i + 65536 → item_of links (view (get_or values i d)) ≡ Err place → before + place ≤ i + 65537
 before_place links values i d before place within so_far is =
-    omega (arith, so_far, front values i d within, place_within links (view (get_or values i d)) place is)
+    omega (arith, so_far, counted_first values i d within, place_within links (view (get_or values i d)) place is)
 
 pub places_more : (links : List LinkStart) (values : List Value) (i : ℕ) (d : Value) (before : ℕ) (one : Item) → i < length values → before + count_all (items_view (drop i values)) ≤ i + 65536 → item_of links (view (get_or values i d)) ≡ Ok one
     → (before + places_of one) + count_all (items_view (drop (i + 1) values)) ≤ (i + 1) + 65536
 places_more links values i d before one within so_far is =
-    omega (arith, so_far, front values i d within, places_within links (view (get_or values i d)) one is)
+    omega (arith, so_far, counted_first values i d within, places_within links (view (get_or values i d)) one is)
 
 -- ---- the loop that counts
-
-pub counts_on : (values : List Value) (i : ℕ) (d : Value) (count n : ℕ) → i < length values → count + count_all (items_view (drop i values)) ≡ count_all (items_view values) → n ≡ min (count_of (view (get_or values i d))) 65537 → count + n ≤ 65536
-    → (count + n) + count_all (items_view (drop (i + 1) values)) ≡ count_all (items_view values)
-counts_on values i d count n within so_far is few = omega (arith, so_far, is, few, front values i d within)
-
-pub counts_over : (values : List Value) (i : ℕ) (d : Value) (count n : ℕ) → i < length values → count + count_all (items_view (drop i values)) ≡ count_all (items_view values) → n ≡ min (count_of (view (get_or values i d))) 65537 → 65536 < count + n
-    → false ≡ nat_le (count_all (items_view values)) 65536
-counts_over values i d count n within so_far is many =
-    let over : 65536 < count_all (items_view values) = omega (arith, so_far, is, many, front values i d within) in
-    grind (arith, nat_tests)
-
-pub counts_all : (values : List Value) (i count : ℕ) → length values ≤ i → count + count_all (items_view (drop i values)) ≡ count_all (items_view values) → count ≤ 65536 → true ≡ nat_le (count_all (items_view values)) 65536
-counts_all values i count past so_far few =
-    let none : count_all (items_view (drop i values)) ≡ 0 = ap (λ (left : List Value). count_all (items_view left)) (drop_all i values past) in
-    let within : count_all (items_view values) ≤ 65536 = omega (arith, so_far, none, few) in
-    grind (arith, nat_tests)
 
 pub loop_counts : (d : Data) (times : ℕ) (values : List Value) (n : ℕ) → true ≡ is_loop d → Some times ≡ times_at d → Some (items_view values) ≡ list_at (codes "body") d → n ≡ min (times * length values) 65537 → n ≡ min (count_of d) 65537
 unfolding count_of

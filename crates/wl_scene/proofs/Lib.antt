@@ -3,6 +3,13 @@ pub mod Wholes
 pub mod Among
 pub mod Scripts
 pub mod Counts
+pub mod Found
+pub mod Fields
+pub mod Fitting
+pub mod Asked
+pub mod Requests
+pub mod Policies
+pub mod Ends
 pub mod Sounds
 pub mod Lanes
 pub mod Readings

@@ -1,5 +1,6 @@
 -- Members that are put in.
-use Rattle.std.proofs.Common.{◌≡◌, ℕ, Bool, true, false, ◌||◌, List, [], ◌∷◌, ◌++◌, Ordering, Less, Equal, Greater, Result, Ok, Err, String, Global, refl, ap, ◌∙◌}
+use Rattle.std.proofs.Common.{◌≡◌, ℕ, Bool, false, ◌||◌, List, [], ◌∷◌, ◌++◌, Ordering, Less, Equal, Greater, Result, Ok, Err, String, Global, refl, ap, ◌∙◌}
+use Rattle.std.proofs.lemmas.Bool.{or_parts}
 use Rattle.std.specs.Prelude.{OnOk, OnErr}
 use Rattle.std.specs.Ordering.{nat_cmp, match_ordering}
 use Rattle.std.specs.Cmp.Lexicographic.{slice_cmp}
@@ -14,15 +15,6 @@ pub merged : (ms ns : List Named) (found : Members) → with_members (ms ++ ns) 
 merged [] ns found = refl
 merged (m ∷ ms) ns found = merged ms ns (put m.0 m.1 found)
 
-front : (a b : Bool) → (a || b) ≡ false → a ≡ false
-front false b none = refl
-front true b none = none
-
-back : (a b : Bool) → (a || b) ≡ false → b ≡ false
-back false b none = none
-back true false none = refl
-back true true none = none
-
 both : (a b : Bool) → a ≡ false → b ≡ false → (a || b) ≡ false
 both a b first second = rw (first, second) refl
 
@@ -35,9 +27,8 @@ placed Greater a b c first second third = third
 pub put_no_float : (name : List ℕ) (d : Data) (ms : Members) → has_float d ≡ false → members_have_float ms ≡ false → members_have_float (put name d ms) ≡ false
 put_no_float name d no_members none others = both (has_float d) false none refl
 put_no_float name d (member l e ms) none others =
-    let first = front (has_float e) (members_have_float ms) others in
-    let rest = back (has_float e) (members_have_float ms) others in
-    placed (slice_cmp nat_cmp name l) _ _ _ (both (has_float d) _ none others) (both (has_float d) _ none rest) (both (has_float e) _ first (put_no_float name d ms none rest))
+    let each = or_parts (has_float e) (members_have_float ms) others in
+    placed (slice_cmp nat_cmp name l) _ _ _ (both (has_float d) _ none others) (both (has_float d) _ none each.1) (both (has_float e) _ each.0 (put_no_float name d ms none each.1))
 
 -- whether it is put in or not
 pub still_no_float : {A E : Type 0} (r : Result A E) (name : List ℕ) (d : Data) (old new : List (String Global × Value)) → OnOk r (members_view new ≡ put name d (members_view old)) → OnErr r (new ≡ old)

@@ -1,18 +1,16 @@
 -- The loops over lists: what the elements left are read as, behind those so far, is what all are read as.
-use Rattle.std.proofs.Common.{◌≡◌, ℕ, suc, ◌+◌, ◌<◌, ◌≤◌, List, [], ◌∷◌, ◌++◌, length, get_or, drop, Option, Some, None, Result, Ok, Err, refl, sym, ap, ◌∙◌, append_assoc, add-one, drop-cons, arith}
+use Rattle.std.proofs.Common.{◌≡◌, ℕ, suc, ◌+◌, ◌<◌, ◌≤◌, List, [], ◌∷◌, ◌++◌, length, get_or, drop, Option, Some, None, Result, Ok, Err, refl, sym, ap, ◌∙◌, append_assoc, arith}
 use Rattle.std.specs.Prelude.{option_map}
-use Rattle.std.proofs.lemmas.List.{append-nil, drop_all}
+use Rattle.std.proofs.lemmas.List.{append-nil, drop_all, drop_more}
 use Rattle.serde_json.specs.Data.{Data}
 use Rattle.serde_json.specs.View.{view, items_view}
 use Rattle.serde_json.specs.declared.value.Value.{Value}
 use Rattle.wl_history.specs.declared.script.Plain.{Plain}
 use Rattle.wl_history.specs.declared.script.Item.{Item}
 use Rattle.wl_history.specs.declared.start.LinkStart.{LinkStart}
-use Rattle.wl_scene.specs.Commands.{command_of, before_plains, plains_of, item_of, places_of, before_others, items_of}
-use Rattle.wl_scene.specs.Members.{in_front, each_of}
-
-front : (values : List Value) (i : ℕ) (d : Value) → i < length values → drop i values ≡ get_or values i d ∷ drop (i + 1) values
-front values i d within = rw add-one (drop-cons values i d within)
+use Rattle.wl_scene.specs.Commands.{command_of}
+use Rattle.wl_scene.specs.Items.{before_plains, plains_of, item_of, places_of, before_others, items_of}
+use Rattle.wl_scene.specs.Members.{each_of}
 
 -- ---- with places
 
@@ -40,12 +38,12 @@ plain_read body count plain (Err number) = let same : count + suc number ≡ (co
 pub plain_more : (links : List LinkStart) (values : List Value) (i : ℕ) (d : Value) (body : List Plain) (plain : Plain) (whole : Result (List Plain) ℕ) → i < length values → whole ≡ resumed body i (reading links (drop i values)) → command_of links (view (get_or values i d)) ≡ Some plain
     → whole ≡ resumed (body ++ plain ∷ []) (i + 1) (reading links (drop (i + 1) values))
 plain_more links values i d body plain whole within so_far read =
-    so_far ∙ ap (resumed body i) (ap (reading links) (front values i d within) ∙ ap (λ (c : Option Plain). before_plains c (reading links (drop (i + 1) values))) read) ∙ plain_read body i plain (reading links (drop (i + 1) values))
+    so_far ∙ ap (resumed body i) (ap (reading links) (drop_more values i d within) ∙ ap (λ (c : Option Plain). before_plains c (reading links (drop (i + 1) values))) read) ∙ plain_read body i plain (reading links (drop (i + 1) values))
 
 pub plain_wrong : (links : List LinkStart) (values : List Value) (i : ℕ) (d : Value) (body : List Plain) (whole : Result (List Plain) ℕ) → i < length values → whole ≡ resumed body i (reading links (drop i values)) → command_of links (view (get_or values i d)) ≡ None
     → whole ≡ Err (i + 1)
 plain_wrong links values i d body whole within so_far none =
-    so_far ∙ ap (resumed body i) (ap (reading links) (front values i d within) ∙ ap (λ (c : Option Plain). before_plains c (reading links (drop (i + 1) values))) none)
+    so_far ∙ ap (resumed body i) (ap (reading links) (drop_more values i d within) ∙ ap (λ (c : Option Plain). before_plains c (reading links (drop (i + 1) values))) none)
 
 -- all commands
 abbrev pub reading_all : List LinkStart → List Value → Result (List Item) ℕ
@@ -58,13 +56,8 @@ item_read items count one (Err place) = let same : count + (places_of one + plac
 pub item_more : (links : List LinkStart) (values : List Value) (i : ℕ) (d : Value) (items : List Item) (count : ℕ) (one : Item) (whole : Result (List Item) ℕ) → i < length values → whole ≡ resumed items count (reading_all links (drop i values)) → item_of links (view (get_or values i d)) ≡ Ok one
     → whole ≡ resumed (items ++ one ∷ []) (count + places_of one) (reading_all links (drop (i + 1) values))
 item_more links values i d items count one whole within so_far read =
-    so_far ∙ ap (resumed items count) (ap (reading_all links) (front values i d within) ∙ ap (λ (c : Result Item ℕ). before_others c (reading_all links (drop (i + 1) values))) read)
+    so_far ∙ ap (resumed items count) (ap (reading_all links) (drop_more values i d within) ∙ ap (λ (c : Result Item ℕ). before_others c (reading_all links (drop (i + 1) values))) read)
     ∙ item_read items count one (reading_all links (drop (i + 1) values))
-
-pub item_wrong : (links : List LinkStart) (values : List Value) (i : ℕ) (d : Value) (items : List Item) (count place : ℕ) (whole : Result (List Item) ℕ) → i < length values → whole ≡ resumed items count (reading_all links (drop i values)) → item_of links (view (get_or values i d)) ≡ Err place
-    → whole ≡ Err (count + place)
-item_wrong links values i d items count place whole within so_far read =
-    so_far ∙ ap (resumed items count) (ap (reading_all links) (front values i d within) ∙ ap (λ (c : Result Item ℕ). before_others c (reading_all links (drop (i + 1) values))) read)
 
 -- ---- without places
 
@@ -74,25 +67,3 @@ behind elements left = option_map (λ others. elements ++ others) left
 
 abbrev pub reading_each : {A : Type 0} → (Data → Option A) → List Value → Option (List A)
 reading_each read values = each_of read (items_view values)
-
-pub each_begins : {A : Type 0} (r : Option (List A)) → r ≡ behind [] r
-each_begins (Some elements) = refl
-each_begins None = refl
-
-each_read : {A : Type 0} (elements : List A) (one : A) (r : Option (List A)) → behind elements (in_front (Some one) r) ≡ behind (elements ++ one ∷ []) r
-each_read elements one (Some left) = ap Some (sym (append_assoc elements (one ∷ []) left))
-each_read elements one None = refl
-
-pub each_more : {A : Type 0} (read : Data → Option A) (values : List Value) (i : ℕ) (d : Value) (elements : List A) (one : A) (whole : Option (List A)) → i < length values → whole ≡ behind elements (reading_each read (drop i values)) → read (view (get_or values i d)) ≡ Some one
-    → whole ≡ behind (elements ++ one ∷ []) (reading_each read (drop (i + 1) values))
-each_more {A = A} read values i d elements one whole within so_far is =
-    so_far ∙ ap (behind elements) (ap (reading_each read) (front values i d within) ∙ ap (λ (c : Option A). in_front c (reading_each read (drop (i + 1) values))) is)
-    ∙ each_read elements one (reading_each read (drop (i + 1) values))
-
-pub each_wrong : {A : Type 0} (read : Data → Option A) (values : List Value) (i : ℕ) (d : Value) (elements : List A) (whole : Option (List A)) → i < length values → whole ≡ behind elements (reading_each read (drop i values)) → read (view (get_or values i d)) ≡ None → whole ≡ None
-each_wrong {A = A} read values i d elements whole within so_far is =
-    so_far ∙ ap (behind elements) (ap (reading_each read) (front values i d within) ∙ ap (λ (c : Option A). in_front c (reading_each read (drop (i + 1) values))) is)
-
-pub each_ends : {A : Type 0} (read : Data → Option A) (values : List Value) (i : ℕ) (elements : List A) (whole : Option (List A)) → length values ≤ i → whole ≡ behind elements (reading_each read (drop i values)) → whole ≡ Some elements
-each_ends read values i elements whole past so_far =
-    so_far ∙ ap (λ (left : List Value). behind elements (reading_each read left)) (drop_all i values past) ∙ ap Some (append-nil elements)

@@ -1,7 +1,11 @@
 pub mod Objects
 pub mod Lines
 pub mod Members
+pub mod Fields
+pub mod Entries
 pub mod Commands
+pub mod Items
+pub mod Head
 pub mod Scene
 pub mod Answering
 pub mod Sound

@@ -10,10 +10,12 @@ use Rattle.wl_elem.specs.Why.{why_name}
 use Rattle.wl_number.specs.declared.numbers.Numbers.{Numbers}
 use Rattle.wl_history.specs.declared.command.Command.{Command}
 use Rattle.wl_history.specs.declared.command.Command.TheVariants as commands
+use Rattle.wl_history.specs.declared.command.Machine.{Machine}
+use Rattle.wl_history.specs.declared.command.Machine.TheVariants as machines
 use Rattle.wl_history.specs.declared.outcome.Outcome.{Outcome}
 use Rattle.wl_history.specs.declared.outcome.Outcome.TheVariants as outcomes
 use Rattle.wl_history.specs.declared.outcome.KeptWhy.{KeptWhy}
-use Rattle.wl_history.specs.declared.outcome.KeptWhy.TheVariants.{NotSetUp}
+use Rattle.wl_history.specs.declared.outcome.KeptWhy.TheVariants.{NotSetUp, Unpowered, Unmapped}
 use Rattle.wl_history.specs.declared.step.Step.{Step}
 use Rattle.wl_scene.specs.Objects.{Named, object_of, whole, wholes}
 
@@ -33,6 +35,12 @@ nth_data None = null
 
 abbrev pub kept_name : KeptWhy → List ℕ
 kept_name NotSetUp = codes "notsetup"
+kept_name Unpowered = codes "unpowered"
+kept_name Unmapped = codes "unmapped"
+
+-- what an end asked for
+abbrev pub machine_name : Machine → List ℕ
+machine_name machines.Map = codes "map"
 
 abbrev pub end_member : EndId → Named
 end_member end = (codes "end", string (end_name end))
@@ -55,29 +63,52 @@ command_name (commands.Again end link lane pos) = codes "again"
 command_name (commands.Deliver end link nth) = codes "deliver"
 command_name (commands.Alter end link nth number) = codes "alter"
 command_name (commands.Forge end link lane key pn number body) = codes "forge"
+command_name (commands.Inject end link octets) = codes "inject"
 command_name (commands.AckOut end lane) = codes "ack_out"
 command_name (commands.AckIn end nth) = codes "ack_in"
 command_name (commands.BarOut end lane to) = codes "bar_out"
 command_name (commands.BarIn end nth) = codes "bar_in"
 command_name (commands.Install end) = codes "install"
 command_name (commands.Turn end) = codes "turn"
+command_name (commands.Power end link on) = codes "power"
+command_name (commands.MapAsk end entries) = codes "map_ask"
+command_name (commands.MapTeardown end) = codes "map_teardown"
+command_name (commands.GiveUp end what) = codes "give_up"
 
--- what is shown of each command; of a body that is queued its size in octets, of a forged frame nothing
+-- what is shown of data and acknowledgements; of a body its size in octets
+abbrev pub data_members : Command → List Named
+data_members (commands.Queue end tid body) = end_member end ∷ (codes "tid", whole tid) ∷ (codes "size", whole (length body)) ∷ []
+data_members (commands.Reserve end lane) = end_member end ∷ lane_member lane ∷ []
+data_members (commands.Book end) = end_member end ∷ []
+data_members (commands.Put end link) = end_member end ∷ link_member link ∷ []
+data_members (commands.Again end link lane pos) = end_member end ∷ link_member link ∷ lane_member lane ∷ pos_member pos ∷ []
+data_members (commands.AckOut end lane) = end_member end ∷ lane_member lane ∷ []
+data_members (commands.AckIn end nth) = end_member end ∷ (codes "nth", nth_data nth) ∷ []
+data_members (commands.BarOut end lane to) = end_member end ∷ lane_member lane ∷ (codes "to", whole to) ∷ []
+data_members (commands.BarIn end nth) = end_member end ∷ (codes "nth", nth_data nth) ∷ []
+data_members other = []
+
+-- what is shown of what is heard; of octets their number, of a forged frame nothing
+abbrev pub heard_members : Command → List Named
+heard_members (commands.Deliver end link nth) = end_member end ∷ link_member link ∷ (codes "nth", nth_data nth) ∷ []
+heard_members (commands.Inject end link octets) = end_member end ∷ link_member link ∷ (codes "size", whole (length octets)) ∷ []
+heard_members (commands.Alter end link nth number) = end_member end ∷ link_member link ∷ (codes "nth", nth_data nth) ∷ (codes "number", whole number) ∷ []
+heard_members (commands.Forge end link lane key pn number body) = end_member end ∷ link_member link ∷ []
+heard_members other = []
+
+-- what is shown of keys, radios and requests; of what is asked for nothing
+abbrev pub setting_members : Command → List Named
+setting_members (commands.Install end) = end_member end ∷ []
+setting_members (commands.Turn end) = end_member end ∷ []
+setting_members (commands.Power end link on) = end_member end ∷ link_member link ∷ (codes "on", boolean on) ∷ []
+setting_members (commands.MapAsk end entries) = end_member end ∷ []
+setting_members (commands.MapTeardown end) = end_member end ∷ []
+setting_members (commands.GiveUp end what) = end_member end ∷ (codes "what", string (machine_name what)) ∷ []
+setting_members other = []
+
+-- what is shown of each command, which is one of these three kinds
 abbrev pub command_members : Command → List Named
-command_members (commands.Queue end tid body) = end_member end ∷ (codes "tid", whole tid) ∷ (codes "size", whole (length body)) ∷ []
-command_members (commands.Reserve end lane) = end_member end ∷ lane_member lane ∷ []
-command_members (commands.Book end) = end_member end ∷ []
-command_members (commands.Put end link) = end_member end ∷ link_member link ∷ []
-command_members (commands.Again end link lane pos) = end_member end ∷ link_member link ∷ lane_member lane ∷ pos_member pos ∷ []
-command_members (commands.Deliver end link nth) = end_member end ∷ link_member link ∷ (codes "nth", nth_data nth) ∷ []
-command_members (commands.Alter end link nth number) = end_member end ∷ link_member link ∷ (codes "nth", nth_data nth) ∷ (codes "number", whole number) ∷ []
-command_members (commands.Forge end link lane key pn number body) = end_member end ∷ link_member link ∷ []
-command_members (commands.AckOut end lane) = end_member end ∷ lane_member lane ∷ []
-command_members (commands.AckIn end nth) = end_member end ∷ (codes "nth", nth_data nth) ∷ []
-command_members (commands.BarOut end lane to) = end_member end ∷ lane_member lane ∷ (codes "to", whole to) ∷ []
-command_members (commands.BarIn end nth) = end_member end ∷ (codes "nth", nth_data nth) ∷ []
-command_members (commands.Install end) = end_member end ∷ []
-command_members (commands.Turn end) = end_member end ∷ []
+command_members command = data_members command ++ heard_members command ++ setting_members command
 
 abbrev pub answer_name : Outcome → List ℕ
 answer_name (outcomes.Queued pos) = codes "queued"
@@ -114,10 +145,20 @@ answer_name (outcomes.Moved lane start up) = codes "moved"
 answer_name (outcomes.Installed key) = codes "installed"
 answer_name (outcomes.Turned key) = codes "turned"
 answer_name outcomes.KeysSpent = codes "keysspent"
+answer_name outcomes.Set = codes "set"
+answer_name (outcomes.Asked token) = codes "asked"
+answer_name (outcomes.Busy token) = codes "busy"
+answer_name outcomes.NotValid = codes "notvalid"
+answer_name outcomes.Sent = codes "sent"
+answer_name (outcomes.Given token) = codes "given"
 
 -- the position, key number and packet number of a booking
 abbrev pub booking_members : Lane → Numbers → List Named
 booking_members lane n = lane_member lane ∷ pos_member n.pos ∷ (codes "key", whole n.key) ∷ (codes "pn", whole n.pn) ∷ []
+
+-- the token of a request
+abbrev pub token_member : ℕ → Named
+token_member token = (codes "token", whole token)
 
 -- what is shown of each answer
 abbrev pub answer_members : Outcome → List Named
@@ -155,6 +196,12 @@ answer_members (outcomes.Moved lane start up) = (codes "up", array (wholes up)) 
 answer_members (outcomes.Installed key) = (codes "key", whole key) ∷ []
 answer_members (outcomes.Turned key) = (codes "key", whole key) ∷ []
 answer_members outcomes.KeysSpent = []
+answer_members outcomes.Set = []
+answer_members (outcomes.Asked token) = token_member token ∷ []
+answer_members (outcomes.Busy token) = token_member token ∷ []
+answer_members outcomes.NotValid = []
+answer_members outcomes.Sent = []
+answer_members (outcomes.Given token) = token_member token ∷ []
 
 -- A step: its thread, the command and the answer, each with its members.
 abbrev pub step_data : Step → Data

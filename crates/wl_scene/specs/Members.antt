@@ -3,7 +3,7 @@ use Rattle.std.specs.Prelude.{ℕ, ◌==◌, ◌&&◌, ◌||◌, nat_le, nat_lt,
 use Rattle.std.specs.Result.{result_ok}
 use Rattle.hex.specs.Hex.{decode_of, decode_sized}
 use Rattle.serde_json.specs.Data.{Data, object, Items, no_items, item, Members, no_members, member}
-use Rattle.serde_json.specs.Find.{get, as_number, as_str, as_array, as_u64}
+use Rattle.serde_json.specs.Find.{get, as_bool, as_number, as_str, as_array, as_u64}
 
 -- what follows what was found
 infixl 10 ◌>>=◌
@@ -74,6 +74,17 @@ is_text None word = false
 -- the member of this name is this text
 abbrev pub has_text : List ℕ → List ℕ → Data → Bool
 has_text name word d = is_text (text_at name d) word
+
+abbrev pub bool_at : List ℕ → Data → Option Bool
+bool_at name d = option_and_then as_bool (get name d)
+
+abbrev pub is_true : Option Bool → Bool
+is_true (Some b) = b
+is_true None = false
+
+-- the member of this name is true
+abbrev pub has_true : List ℕ → Data → Bool
+has_true name d = is_true (bool_at name d)
 
 abbrev pub in_front : {A : Type 0} → Option A → Option (List A) → Option (List A)
 in_front (Some x) (Some xs) = Some (x ∷ xs)

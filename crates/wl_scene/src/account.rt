@@ -10,11 +10,12 @@ ghost use Rattle.wl_air.specs.World.{Stands};
 ghost use Rattle.wl_scene.specs.Account.{per_lane, IsTotals, IsReport};
 
 use crate::laws::totals_are_reported;
+use crate::policy::no_links;
 use crate::report::report_line;
 use crate::totals::{Released, Totals};
 use std::alloc::Global;
 use wl_air::World;
-use wl_elem::{Bytes, EndId, Lane, LinkSet, Memory, Tid};
+use wl_elem::{Bytes, Direction, EndId, Lane, Memory, Tid};
 use wl_end::End;
 use wl_history::{Journal, Positions, words_are_told};
 
@@ -26,16 +27,6 @@ fn lane_of(place: u8) -> Lane
     match Tid::new(place) {
         Some(tid) => Lane::Tid(tid),
         None => Lane::Management,
-    }
-}
-
-/// No links.
-pub(crate) fn no_links() -> LinkSet
-    ensures { result ≡ 0 }
-{
-    match LinkSet::from_bits(0) {
-        Some(set) => set,
-        None => unreachable!(),
     }
 }
 
@@ -93,9 +84,9 @@ fn released(alloc: Global, end: &End) -> Result<Released, Memory>
 }
 
 /// What an end reports: how many frames it aired and how many numbers it booked, the key that it sends
-/// under and the newest that it holds, the links set up, and by lane how many bodies it queued and
-/// which positions of its peer's queues it released. Each TID is mapped to all links set up, and no
-/// EMLSR mode is in force. `Memory` where there was none for the positions.
+/// under and the newest that it holds, the links set up and the mappings in force on them, and by lane
+/// how many bodies it queued and which positions of its peer's queues it released. No EMLSR mode is in
+/// force. `Memory` where there was none for the positions.
 ///
 /// Conditions: fewer than 2^32 frames were aired, and fewer than 2^32 numbers booked.
 pub fn end_totals(alloc: Global, end: &End) -> Result<Totals, Memory>
@@ -103,16 +94,17 @@ pub fn end_totals(alloc: Global, end: &End) -> Result<Totals, Memory>
     requires booked { booking_count end.now.booked < 2 ^ 32 }
     ensures { IfOk result (IsTotals end.now) }
 {
-    let links = end.links();
+    let dl = end.agreed(Direction::Down).sets;
+    let ul = end.agreed(Direction::Up).sets;
     let released = released(alloc, end)?;
     Ok(Totals {
         aired: end.aired_count(),
         booked: end.booked_count(),
         emlsr: no_links(),
         key: end.send_key(),
-        links,
-        dl: [links; 8],
-        ul: [links; 8],
+        links: end.links(),
+        dl,
+        ul,
         newest: end.newest(),
         queued: queued(end),
         released,

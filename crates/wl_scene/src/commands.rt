@@ -3,14 +3,28 @@
 ghost use Rattle.std.specs.Prelude.{◌≡◌};
 ghost use Rattle.serde_json.specs.View.{view};
 ghost use Rattle.wl_scene.specs.Answering.{Gives};
-ghost use Rattle.wl_scene.specs.Commands.{end_at, tid_at, body_at, queue_of, send_of, reserve_of, book_of, put_of, deliver_of, again_of, alter_of, forge_of, ack_out_of, ack_in_of, bar_out_of, bar_in_of, install_of, turn_of, named, command_of};
+ghost use Rattle.wl_scene.specs.Commands.{alone_at, queue_of, send_of, reserve_of, put_of, deliver_of, again_of, alter_of, forge_of, inject_of, map_ask_of, ack_out_of, ack_in_of, bar_out_of, bar_in_of, power_of, give_up_of, named as named_as, any_named, command_of};
 
+use crate::entries::entries;
 use crate::fault::Stop;
-use crate::field::{body, end, key, lane, link, nth, pn, position, sequence, tid};
+use crate::field::{
+    body, end, injected, key, lane, link, machine, nth, on, pn, position, sequence, tid,
+};
 use crate::member::{has_only, text};
 use serde_json::Value;
 use std::alloc::Global;
+use wl_elem::EndId;
 use wl_history::{Command, LinkStart, Plain};
+
+/// The end of a command that has no other member.
+fn alone(value: &Value) -> Option<EndId>
+    ensures { result ≡ alone_at (view value.now) }
+{
+    if !has_only(value, &["do", "end"]) {
+        return None;
+    }
+    end(value)
+}
 
 /// The command `queue`.
 fn queue(alloc: Global, value: &Value) -> Result<Plain, Stop>
@@ -19,18 +33,10 @@ fn queue(alloc: Global, value: &Value) -> Result<Plain, Stop>
     if !has_only(value, &["do", "end", "tid", "body"]) {
         return Err(Stop::Wrong);
     }
-    let end = match end(value) {
-        Some(end) => end,
-        None => return Err(Stop::Wrong),
-    };
-    let tid = match tid(value) {
-        Some(tid) => tid,
-        None => return Err(Stop::Wrong),
-    };
-    match body(alloc, value) {
-        Ok(body) => Ok(Plain::Do(Command::Queue { end, tid, body })),
-        Err(stop) => Err(stop),
-    }
+    let end = end(value).ok_or(Stop::Wrong)?;
+    let tid = tid(value).ok_or(Stop::Wrong)?;
+    let body = body(alloc, value)?;
+    Ok(Plain::Do(Command::Queue { end, tid, body }))
 }
 
 /// The command `forge`.
@@ -41,42 +47,47 @@ fn forge(alloc: Global, links: &[LinkStart], value: &Value) -> Result<Plain, Sto
     if !has_only(value, &names) {
         return Err(Stop::Wrong);
     }
-    let end = match end(value) {
-        Some(end) => end,
-        None => return Err(Stop::Wrong),
-    };
-    let link = match link(links, value) {
-        Some(link) => link,
-        None => return Err(Stop::Wrong),
-    };
-    let lane = match lane(value) {
-        Some(lane) => lane,
-        None => return Err(Stop::Wrong),
-    };
-    let key = match key(value) {
-        Some(key) => key,
-        None => return Err(Stop::Wrong),
-    };
-    let pn = match pn(value) {
-        Some(pn) => pn,
-        None => return Err(Stop::Wrong),
-    };
-    let number = match sequence(value) {
-        Some(number) => number,
-        None => return Err(Stop::Wrong),
-    };
-    match body(alloc, value) {
-        Ok(body) => Ok(Plain::Do(Command::Forge {
-            end,
-            link,
-            lane,
-            key,
-            pn,
-            number,
-            body,
-        })),
-        Err(stop) => Err(stop),
+    let end = end(value).ok_or(Stop::Wrong)?;
+    let link = link(links, value).ok_or(Stop::Wrong)?;
+    let lane = lane(value).ok_or(Stop::Wrong)?;
+    let key = key(value).ok_or(Stop::Wrong)?;
+    let pn = pn(value).ok_or(Stop::Wrong)?;
+    let number = sequence(value).ok_or(Stop::Wrong)?;
+    let body = body(alloc, value)?;
+    Ok(Plain::Do(Command::Forge {
+        end,
+        link,
+        lane,
+        key,
+        pn,
+        number,
+        body,
+    }))
+}
+
+/// The command `inject`.
+fn inject(alloc: Global, links: &[LinkStart], value: &Value) -> Result<Plain, Stop>
+    ensures { Gives result (inject_of links.now (view value.now)) }
+{
+    if !has_only(value, &["do", "end", "link", "hex"]) {
+        return Err(Stop::Wrong);
     }
+    let end = end(value).ok_or(Stop::Wrong)?;
+    let link = link(links, value).ok_or(Stop::Wrong)?;
+    let octets = injected(alloc, value)?;
+    Ok(Plain::Do(Command::Inject { end, link, octets }))
+}
+
+/// The command `map_ask`.
+fn map_ask(alloc: Global, value: &Value) -> Result<Plain, Stop>
+    ensures { Gives result (map_ask_of (view value.now)) }
+{
+    if !has_only(value, &["do", "end", "entries"]) {
+        return Err(Stop::Wrong);
+    }
+    let end = end(value).ok_or(Stop::Wrong)?;
+    let entries = entries(alloc, value)?;
+    Ok(Plain::Do(Command::MapAsk { end, entries }))
 }
 
 /// The command `send`.
@@ -102,17 +113,6 @@ fn reserve(value: &Value) -> Option<Plain>
     let end = end(value)?;
     let lane = lane(value)?;
     Some(Plain::Do(Command::Reserve { end, lane }))
-}
-
-/// The command `book`.
-fn book(value: &Value) -> Option<Plain>
-    ensures { result ≡ book_of (view value.now) }
-{
-    if !has_only(value, &["do", "end"]) {
-        return None;
-    }
-    let end = end(value)?;
-    Some(Plain::Do(Command::Book { end }))
 }
 
 /// The command `put`.
@@ -227,36 +227,39 @@ fn bar_in(value: &Value) -> Option<Plain>
     Some(Plain::Do(Command::BarIn { end, nth }))
 }
 
-/// The command `install`.
-fn install(value: &Value) -> Option<Plain>
-    ensures { result ≡ install_of (view value.now) }
+/// The command `power`.
+fn power(links: &[LinkStart], value: &Value) -> Option<Plain>
+    ensures { result ≡ power_of links.now (view value.now) }
 {
-    if !has_only(value, &["do", "end"]) {
+    if !has_only(value, &["do", "end", "link", "on"]) {
         return None;
     }
     let end = end(value)?;
-    Some(Plain::Do(Command::Install { end }))
+    let link = link(links, value)?;
+    let on = on(value)?;
+    Some(Plain::Do(Command::Power { end, link, on }))
 }
 
-/// The command `turn`.
-fn turn(value: &Value) -> Option<Plain>
-    ensures { result ≡ turn_of (view value.now) }
+/// The command `give_up`.
+fn give_up(value: &Value) -> Option<Plain>
+    ensures { result ≡ give_up_of (view value.now) }
 {
-    if !has_only(value, &["do", "end"]) {
+    if !has_only(value, &["do", "end", "what"]) {
         return None;
     }
     let end = end(value)?;
-    Some(Plain::Do(Command::Turn { end }))
+    let what = machine(value)?;
+    Some(Plain::Do(Command::GiveUp { end, what }))
 }
 
-/// A command by its name, one without a body.
+/// A command by its name, one without octets and lists.
 fn by_name(links: &[LinkStart], name: &str, value: &Value) -> Option<Plain>
-    ensures { result ≡ named links.now name.now (view value.now) }
+    ensures { result ≡ named_as links.now name.now (view value.now) }
 {
     match name {
         "send" => send(links, value),
         "reserve" => reserve(value),
-        "book" => book(value),
+        "book" => alone(value).map(|end| Plain::Do(Command::Book { end })),
         "put" => put(links, value),
         "again" => again(links, value),
         "deliver" => deliver(links, value),
@@ -265,9 +268,28 @@ fn by_name(links: &[LinkStart], name: &str, value: &Value) -> Option<Plain>
         "ack_in" => ack_in(value),
         "bar_out" => bar_out(value),
         "bar_in" => bar_in(value),
-        "install" => install(value),
-        "turn" => turn(value),
+        "install" => alone(value).map(|end| Plain::Do(Command::Install { end })),
+        "turn" => alone(value).map(|end| Plain::Do(Command::Turn { end })),
+        "power" => power(links, value),
+        "map_teardown" => alone(value).map(|end| Plain::Do(Command::MapTeardown { end })),
+        "give_up" => give_up(value),
         _ => None,
+    }
+}
+
+/// A command by its name.
+fn named(alloc: Global, links: &[LinkStart], name: &str, value: &Value) -> Result<Plain, Stop>
+    ensures { Gives result (any_named links.now (view value.now) name.now) }
+{
+    match name {
+        "queue" => queue(alloc, value),
+        "forge" => forge(alloc, links, value),
+        "inject" => inject(alloc, links, value),
+        "map_ask" => map_ask(alloc, value),
+        _ => match by_name(links, name, value) {
+            Some(plain) => Ok(plain),
+            None => Err(Stop::Wrong),
+        },
     }
 }
 
@@ -276,18 +298,8 @@ fn by_name(links: &[LinkStart], name: &str, value: &Value) -> Option<Plain>
 pub fn command(alloc: Global, links: &[LinkStart], value: &Value) -> Result<Plain, Stop>
     ensures { Gives result (command_of links.now (view value.now)) }
 {
-    let name = match text(value, "do") {
-        Some(name) => name,
-        None => return Err(Stop::Wrong),
-    };
-    if name == "queue" {
-        return queue(alloc, value);
-    }
-    if name == "forge" {
-        return forge(alloc, links, value);
-    }
-    match by_name(links, name, value) {
-        Some(plain) => Ok(plain),
+    match text(value, "do") {
+        Some(name) => named(alloc, links, name, value),
         None => Err(Stop::Wrong),
     }
 }

@@ -5,22 +5,25 @@ ghost use Rattle.std.specs.Result.{result_ok};
 ghost use Rattle.hex.specs.Hex.{decode_of};
 ghost use Rattle.serde_json.specs.View.{view};
 ghost use Rattle.wl_scene.specs.Answering.{Gives};
-ghost use Rattle.wl_scene.specs.Members.{below, in_range, whole_of};
-ghost use Rattle.wl_scene.specs.Commands.{end_named, end_at, tid_at, lane_at, if_link, link_in, key_at, pn_at, position_at, sequence_at, sized, body_at, nth_at};
+ghost use Rattle.wl_scene.specs.Members.{below, in_range, whole_of, hex_at};
+ghost use Rattle.wl_scene.specs.Fields.{end_named, end_at, tid_at, lane_at, if_link, link_in, key_at, pn_at, position_at, sequence_at, body_at, injected_at, nth_at, on_at, machine_named, machine_at};
 
 use crate::fault::Stop;
-use crate::member::{text, whole};
+use crate::member::{boolean, has_text, text, whole};
 use hex::FromHexError;
 use serde_json::Value;
 use std::alloc::Global;
 use wl_elem::{Bytes, EndId, Lane, LinkId, MSDU_LIMIT, Tid};
-use wl_history::LinkStart;
+use wl_history::{LinkStart, Machine};
 
 /// The greatest packet number.
 const LAST_PN: u64 = 0xffff_ffff_ffff;
 
+/// At most so many octets are put before an end at once.
+const OCTETS_LIMIT: usize = 4_096;
+
 /// The end of a name.
-fn end_of(name: &str) -> Option<EndId>
+pub fn end_of(name: &str) -> Option<EndId>
     ensures { result ≡ end_named name.now }
 {
     if name == "ap" {
@@ -72,10 +75,13 @@ fn lane_of(n: u64) -> Option<Lane>
     }
 }
 
-/// The member `lane`, 0 to 7: the data of a TID.
+/// The member `lane`: 0 to 7 for the data of a TID, or `m` for management.
 pub fn lane(value: &Value) -> Option<Lane>
     ensures { result ≡ lane_at (view value.now) }
 {
+    if has_text(value, "lane", "m") {
+        return Some(Lane::Management);
+    }
     match whole(value, "lane") {
         Some(n) => lane_of(n),
         None => None,
@@ -83,7 +89,7 @@ pub fn lane(value: &Value) -> Option<Lane>
 }
 
 /// The ID of the link that has this one.
-fn link_of(links: &[LinkStart], n: u64) -> Option<LinkId>
+pub fn link_of(links: &[LinkStart], n: u64) -> Option<LinkId>
     ensures { result ≡ if_link links.now n }
 {
     match links {
@@ -192,27 +198,72 @@ pub fn nth(value: &Value) -> Option<Option<u32>>
     }
 }
 
-/// The octets of hex digits, from 1 to 2,304.
-fn body_of(alloc: Global, digits: &str) -> Result<Bytes, Stop>
-    ensures { Gives result (option_and_then sized (result_ok (decode_of digits.now))) }
+/// The octets of hex digits.
+fn decoded(alloc: Global, digits: &str) -> Result<Bytes, Stop>
+    ensures { Gives result (result_ok (decode_of digits.now)) }
 {
-    let octets = match hex::decode(alloc, digits) {
-        Ok(octets) => octets,
-        Err(FromHexError::OutOfMemory) => return Err(Stop::NoMemory),
-        Err(_) => return Err(Stop::Wrong),
-    };
-    if octets.is_empty() || octets.len() > MSDU_LIMIT {
-        return Err(Stop::Wrong);
+    match hex::decode(alloc, digits) {
+        Ok(octets) => Ok(Bytes::from_vec(octets)),
+        Err(FromHexError::OutOfMemory) => Err(Stop::NoMemory),
+        Err(_) => Err(Stop::Wrong),
     }
-    Ok(Bytes::from_vec(octets))
+}
+
+/// The octets that a member is, as hex digits.
+fn octets(alloc: Global, value: &Value, name: &str) -> Result<Bytes, Stop>
+    ensures { Gives result (hex_at name.now (view value.now)) }
+{
+    match text(value, name) {
+        Some(digits) => decoded(alloc, digits),
+        None => Err(Stop::Wrong),
+    }
 }
 
 /// The member `body`, 1 to 2,304 octets.
 pub fn body(alloc: Global, value: &Value) -> Result<Bytes, Stop>
     ensures { Gives result (body_at (view value.now)) }
 {
-    match text(value, "body") {
-        Some(digits) => body_of(alloc, digits),
-        None => Err(Stop::Wrong),
+    let body = octets(alloc, value, "body")?;
+    if body.is_empty() || body.as_slice().len() > MSDU_LIMIT {
+        return Err(Stop::Wrong);
+    }
+    Ok(body)
+}
+
+/// The member `hex`, at most 4,096 octets.
+pub fn injected(alloc: Global, value: &Value) -> Result<Bytes, Stop>
+    ensures { Gives result (injected_at (view value.now)) }
+{
+    let octets = octets(alloc, value, "hex")?;
+    if octets.as_slice().len() > OCTETS_LIMIT {
+        return Err(Stop::Wrong);
+    }
+    Ok(octets)
+}
+
+/// The member `on`.
+pub fn on(value: &Value) -> Option<bool>
+    ensures { result ≡ on_at (view value.now) }
+{
+    boolean(value, "on")
+}
+
+/// What an end asked for, by its name.
+fn machine_of(name: &str) -> Option<Machine>
+    ensures { result ≡ machine_named name.now }
+{
+    if name == "map" {
+        return Some(Machine::Map);
+    }
+    None
+}
+
+/// The member `what`: `map`.
+pub fn machine(value: &Value) -> Option<Machine>
+    ensures { result ≡ machine_at (view value.now) }
+{
+    match text(value, "what") {
+        Some(name) => machine_of(name),
+        None => None,
     }
 }

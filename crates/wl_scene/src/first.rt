@@ -3,7 +3,7 @@
 ghost use Rattle.std.specs.Prelude.{◌≡◌, ◌∷◌, [], option_and_then, IfSome};
 ghost use Rattle.serde_json.specs.View.{view, items_view};
 ghost use Rattle.wl_scene.specs.Members.{each_of};
-ghost use Rattle.wl_scene.specs.Scene.{first_of, first_named, if_once, firsts_at};
+ghost use Rattle.wl_scene.specs.Head.{first_of, first_named, if_once, firsts_at};
 ghost use Rattle.wl_scene.specs.Sound.{IsSoundFirst, AreSoundFirsts};
 
 use crate::field::{end, key, pn};

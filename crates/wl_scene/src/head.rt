@@ -1,19 +1,21 @@
 //! The members of a scenario outside its commands.
 
-ghost use Rattle.std.specs.Prelude.{◌≡◌, ◌≢◌, ◌≤◌, ◌&&◌, codes, option_map, option_and_then, IfSome, IfOk, IsOk};
+ghost use Rattle.std.specs.Prelude.{◌≡◌, ◌≢◌, ◌≤◌, ◌&&◌, codes, length, option_map, IfSome, IfOk, IsOk};
 ghost use Rattle.serde_json.specs.View.{view, items_view};
 ghost use Rattle.wl_scene.specs.Answering.{Gives};
-ghost use Rattle.wl_scene.specs.Members.{whole_of, in_range, has_only as only_has, has_number as has_this_number};
-ghost use Rattle.wl_scene.specs.Scene.{window_at, head_names, apart, head_of, commands_of};
+ghost use Rattle.wl_scene.specs.Members.{in_range, has_only as only_has, has_number as has_this_number};
+ghost use Rattle.wl_scene.specs.Head.{associated_at, window_at, head_names, apart, head_of};
+ghost use Rattle.wl_scene.specs.Scene.{commands_of};
 ghost use Rattle.wl_scene.specs.Sound.{IsSoundHead};
 
 use crate::fault::Stop;
 use crate::first::{Firsts, read_firsts};
 use crate::links::links;
 use crate::member::{address, has_number, has_only, key};
+use crate::policy::{Denials, accept, read_denials};
 use serde_json::Value;
 use std::alloc::Global;
-use wl_elem::MacAddr;
+use wl_elem::{LinkSet, MacAddr};
 use wl_history::LinkStarts;
 
 /// What a scenario says outside its commands.
@@ -27,8 +29,14 @@ pub struct Head {
     pub key: [u8; 16],
     /// The links, 1 to 4.
     pub links: LinkStarts,
+    /// Whether all links are set up at the start, or none.
+    pub associated: bool,
     /// The size of the windows, 1 to 256.
     pub window: u16,
+    /// The links that the AP accepts.
+    pub accept: LinkSet,
+    /// Which ends deny each mapping.
+    pub denials: Denials,
     /// What both ends send first.
     pub firsts: Firsts,
 }
@@ -40,9 +48,29 @@ fn has_version(value: &Value) -> bool
     has_only(
         value,
         &[
-            "version", "ap", "sta", "key", "links", "window", "first", "before",
+            "version",
+            "ap",
+            "sta",
+            "key",
+            "links",
+            "associated",
+            "window",
+            "accept",
+            "deny",
+            "first",
+            "before",
         ],
     ) && has_number(value, "version", 1)
+}
+
+/// The member `associated`; true where it is left out. None where it is wrong.
+fn associated(value: &Value) -> Option<bool>
+    ensures { result ≡ associated_at (view value.now) }
+{
+    match value.get("associated") {
+        Some(member) => member.as_bool(),
+        None => Some(true),
+    }
 }
 
 /// A number from 1 to 256.
@@ -83,7 +111,7 @@ fn if_apart(head: Head) -> Result<Head, Stop>
 }
 
 /// The members outside the commands. Wrong where one is wrong, is missing or is one more.
-#[tactic(auto, unfolding(crate::specs::Scene::head_of))]
+#[tactic(auto, unfolding(crate::specs::Head::head_of))]
 pub fn read_head(alloc: Global, value: &Value) -> Result<Head, Stop>
     ensures read { Gives result (head_of (view value.now)) }
     ensures sound { IfOk result IsSoundHead }
@@ -91,37 +119,26 @@ pub fn read_head(alloc: Global, value: &Value) -> Result<Head, Stop>
     if !has_version(value) {
         return Err(Stop::Wrong);
     }
-    let ap = match address(value, "ap") {
-        Some(ap) => ap,
-        None => return Err(Stop::Wrong),
-    };
-    let sta = match address(value, "sta") {
-        Some(sta) => sta,
-        None => return Err(Stop::Wrong),
-    };
-    let key = match key(value, "key") {
-        Some(key) => key,
-        None => return Err(Stop::Wrong),
-    };
-    let window = match window(value) {
-        Some(window) => window,
-        None => return Err(Stop::Wrong),
-    };
-    let firsts = match read_firsts(value) {
-        Some(firsts) => firsts,
-        None => return Err(Stop::Wrong),
-    };
-    match links(alloc, value) {
-        Ok(links) => if_apart(Head {
-            ap,
-            sta,
-            key,
-            links,
-            window,
-            firsts,
-        }),
-        Err(stop) => Err(stop),
-    }
+    let ap = address(value, "ap").ok_or(Stop::Wrong)?;
+    let sta = address(value, "sta").ok_or(Stop::Wrong)?;
+    let key = key(value, "key").ok_or(Stop::Wrong)?;
+    let associated = associated(value).ok_or(Stop::Wrong)?;
+    let window = window(value).ok_or(Stop::Wrong)?;
+    let denials = read_denials(value).ok_or(Stop::Wrong)?;
+    let firsts = read_firsts(value).ok_or(Stop::Wrong)?;
+    let links = links(alloc, value)?;
+    let accept = accept(links.as_slice(), value).ok_or(Stop::Wrong)?;
+    if_apart(Head {
+        ap,
+        sta,
+        key,
+        links,
+        associated,
+        window,
+        accept,
+        denials,
+        firsts,
+    })
 }
 
 /// The commands; none where they are left out. None where they aren't a list.

@@ -4,7 +4,7 @@ ghost use Rattle.std.specs.Prelude.{◌≡◌, ◌≤◌, ◌*◌, suc, min, nat
 ghost use Rattle.serde_json.specs.View.{view, items_view};
 ghost use Rattle.wl_scene.specs.Answering.{AnswersOnly};
 ghost use Rattle.wl_scene.specs.Members.{in_range};
-ghost use Rattle.wl_scene.specs.Commands.{times_at, plains_of, loop_of, item_of, places_of, items_of, count_of, count_all};
+ghost use Rattle.wl_scene.specs.Items.{times_at, plains_of, loop_of, item_of, places_of, items_of, count_of, count_all};
 ghost use Rattle.wl_scene.specs.Scene.{command_limit};
 
 use crate::commands::command;
@@ -58,7 +58,7 @@ fn plains(alloc: Global, links: &[LinkStart], values: &[Value]) -> Result<Plains
 
 /// The loop that a value is. Refused at 1 where it is wrong itself, else at one above the number of the
 /// first wrong command in its body.
-#[tactic(auto, unfolding(crate::specs::Commands::loop_of))]
+#[tactic(auto, unfolding(crate::specs::Items::loop_of))]
 fn repeat(alloc: Global, links: &[LinkStart], value: &Value) -> Result<Item, SceneFault>
     ensures { AnswersOnly result (loop_of links.now (view value.now)) }
 {
@@ -139,7 +139,7 @@ fn product(times: u32, count: usize) -> u64
 }
 
 /// How many commands a value counts as, up to 65,537.
-#[tactic(auto, unfolding(crate::specs::Commands::count_of))]
+#[tactic(auto, unfolding(crate::specs::Items::count_of))]
 fn counted(value: &Value) -> u64
     ensures { result ≡ min (count_of (view value.now)) 65537 }
 {

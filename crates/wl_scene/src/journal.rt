@@ -35,9 +35,9 @@ fn lines_of(alloc: Global, steps: &[Step]) -> Result<String, Memory>
 ///
 /// A line is an object in compact form with its members in the byte order of their names: `t` (the
 /// thread), `do` and `end` with the command's members, and `out` with the answer's. Of a body that is
-/// queued its `size` in octets is shown, and of a forged frame its link alone. `lane` is a number, or
-/// `"m"` for management; `nth` is null where it wasn't given. `Memory` where there was none for the
-/// text.
+/// queued and of octets that are injected their `size` is shown, of a forged frame its link alone, and of
+/// what is asked for nothing. `lane` is a number, or `"m"` for management; `nth` is null where it wasn't
+/// given. `Memory` where there was none for the text.
 pub fn journal_text(alloc: Global, journal: &Journal) -> Result<Bytes, Memory>
     ensures { IfOk result (λ text. text ≡ journal_lines journal.now.steps) }
 {

@@ -3,6 +3,7 @@
 
 mod account;
 mod commands;
+mod entries;
 mod fault;
 mod field;
 mod first;
@@ -15,6 +16,7 @@ mod links;
 mod member;
 mod numbers;
 mod object;
+mod policy;
 mod report;
 mod runs;
 mod scenario;

@@ -5,12 +5,12 @@ ghost use Rattle.serde_json.specs.Data.{object, string, put};
 ghost use Rattle.wl_history.specs.declared.outcome.Outcome.TheVariants.{Kept, BadFrame};
 ghost use Rattle.wl_scene.specs.Built.{built};
 ghost use Rattle.wl_scene.specs.Objects.{with_members};
-ghost use Rattle.wl_scene.specs.Lines.{end_name, kept_name, command_name, answer_name, end_member, lane_member, link_member, nth_data, booking_members, command_members, answer_members, step_data};
+ghost use Rattle.wl_scene.specs.Lines.{end_name, kept_name, machine_name, command_name, answer_name, end_member, lane_member, link_member, nth_data, booking_members, data_members, heard_members, setting_members, command_members, answer_members, step_data};
 
 use crate::object::Object;
 use std::alloc::Global;
 use wl_elem::{EndId, Lane, LinkId, Memory, Why};
-use wl_history::{Command, KeptWhy, Outcome, Step};
+use wl_history::{Command, KeptWhy, Machine, Outcome, Step};
 use wl_number::Numbers;
 
 /// The name of an end.
@@ -29,6 +29,17 @@ fn kept_text(why: KeptWhy) -> &'static str
 {
     match why {
         KeptWhy::NotSetUp => "notsetup",
+        KeptWhy::Unpowered => "unpowered",
+        KeptWhy::Unmapped => "unmapped",
+    }
+}
+
+/// What an end asked for, as a word.
+fn machine_text(what: Machine) -> &'static str
+    ensures { result.now ≡ machine_name what }
+{
+    match what {
+        Machine::Map => "map",
     }
 }
 
@@ -45,12 +56,17 @@ fn command_text(command: &Command) -> &'static str
         Command::Deliver { .. } => "deliver",
         Command::Alter { .. } => "alter",
         Command::Forge { .. } => "forge",
+        Command::Inject { .. } => "inject",
         Command::AckOut { .. } => "ack_out",
         Command::AckIn { .. } => "ack_in",
         Command::BarOut { .. } => "bar_out",
         Command::BarIn { .. } => "bar_in",
         Command::Install { .. } => "install",
         Command::Turn { .. } => "turn",
+        Command::Power { .. } => "power",
+        Command::MapAsk { .. } => "map_ask",
+        Command::MapTeardown { .. } => "map_teardown",
+        Command::GiveUp { .. } => "give_up",
     }
 }
 
@@ -93,6 +109,12 @@ fn answer_text(outcome: &Outcome) -> &'static str
         Outcome::Installed { .. } => "installed",
         Outcome::Turned { .. } => "turned",
         Outcome::KeysSpent => "keysspent",
+        Outcome::Set => "set",
+        Outcome::Asked { .. } => "asked",
+        Outcome::Busy { .. } => "busy",
+        Outcome::NotValid => "notvalid",
+        Outcome::Sent => "sent",
+        Outcome::Given { .. } => "given",
     }
 }
 
@@ -166,9 +188,17 @@ impl Object {
         self.put_number("place", u64::from(place))
     }
 
-    /// Puts what is shown of a command in.
-    fn put_command(&mut self, command: &Command) -> Result<(), Memory>
-        ensures { OnOk result (built self.new ≡ with_members (command_members command.now) (built self.old)) }
+    /// Puts the end that acts in, and the lane.
+    fn put_on(&mut self, end: EndId, lane: Lane) -> Result<(), Memory>
+        ensures { OnOk result (built self.new ≡ with_members (end_member end ∷ lane_member lane ∷ []) (built self.old)) }
+    {
+        self.put_end(end)?;
+        self.put_lane(lane)
+    }
+
+    /// Puts what is shown of a command for data or acknowledgements in. Of another it puts nothing in.
+    fn put_data(&mut self, command: &Command) -> Result<(), Memory>
+        ensures { OnOk result (built self.new ≡ with_members (data_members command.now) (built self.old)) }
     {
         match command {
             Command::Queue { end, tid, body } => {
@@ -177,12 +207,10 @@ impl Object {
                 self.put_number("size", body.as_slice().len() as u64)
             }
             Command::Reserve { end, lane } | Command::AckOut { end, lane } => {
-                self.put_end(*end)?;
-                self.put_lane(*lane)
+                self.put_on(*end, *lane)
             }
-            Command::Put { end, link } | Command::Forge { end, link, .. } => {
-                self.put_over(*end, *link)
-            }
+            Command::Book { end } => self.put_end(*end),
+            Command::Put { end, link } => self.put_over(*end, *link),
             Command::Again {
                 end,
                 link,
@@ -193,9 +221,30 @@ impl Object {
                 self.put_lane(*lane)?;
                 self.put_number("pos", u64::from(*pos))
             }
+            Command::AckIn { end, nth } | Command::BarIn { end, nth } => {
+                self.put_end(*end)?;
+                self.put_nth(*nth)
+            }
+            Command::BarOut { end, lane, to } => {
+                self.put_on(*end, *lane)?;
+                self.put_number("to", u64::from(*to))
+            }
+            _ => Ok(()),
+        }
+    }
+
+    /// Puts what is shown of a command to hear something in. Of another it puts nothing in.
+    fn put_heard(&mut self, command: &Command) -> Result<(), Memory>
+        ensures { OnOk result (built self.new ≡ with_members (heard_members command.now) (built self.old)) }
+    {
+        match command {
             Command::Deliver { end, link, nth } => {
                 self.put_over(*end, *link)?;
                 self.put_nth(*nth)
+            }
+            Command::Inject { end, link, octets } => {
+                self.put_over(*end, *link)?;
+                self.put_number("size", octets.as_slice().len() as u64)
             }
             Command::Alter {
                 end,
@@ -207,19 +256,40 @@ impl Object {
                 self.put_nth(*nth)?;
                 self.put_number("number", u64::from(*number))
             }
-            Command::AckIn { end, nth } | Command::BarIn { end, nth } => {
-                self.put_end(*end)?;
-                self.put_nth(*nth)
-            }
-            Command::BarOut { end, lane, to } => {
-                self.put_end(*end)?;
-                self.put_lane(*lane)?;
-                self.put_number("to", u64::from(*to))
-            }
-            Command::Book { end } | Command::Install { end } | Command::Turn { end } => {
-                self.put_end(*end)
-            }
+            Command::Forge { end, link, .. } => self.put_over(*end, *link),
+            _ => Ok(()),
         }
+    }
+
+    /// Puts what is shown of a command for keys, radios or requests in. Of another it puts nothing in.
+    fn put_setting(&mut self, command: &Command) -> Result<(), Memory>
+        ensures { OnOk result (built self.new ≡ with_members (setting_members command.now) (built self.old)) }
+    {
+        match command {
+            Command::Install { end }
+            | Command::Turn { end }
+            | Command::MapAsk { end, .. }
+            | Command::MapTeardown { end } => self.put_end(*end),
+            Command::Power { end, link, on } => {
+                self.put_over(*end, *link)?;
+                self.put_bool("on", *on)
+            }
+            Command::GiveUp { end, what } => {
+                self.put_end(*end)?;
+                self.put_text("what", machine_text(*what))
+            }
+            _ => Ok(()),
+        }
+    }
+
+    /// Puts what is shown of a command in.
+    #[tactic(auto, using(crate::proofs::Members::merged))]
+    fn put_command(&mut self, command: &Command) -> Result<(), Memory>
+        ensures { OnOk result (built self.new ≡ with_members (command_members command.now) (built self.old)) }
+    {
+        self.put_data(command)?;
+        self.put_heard(command)?;
+        self.put_setting(command)
     }
 
     /// Puts what is shown of an answer in.
@@ -265,6 +335,9 @@ impl Object {
             Outcome::Moved { up, .. } => self.put_u32s("up", up.as_slice()),
             Outcome::Installed { key } | Outcome::Turned { key } => {
                 self.put_number("key", u64::from(*key))
+            }
+            Outcome::Asked { token } | Outcome::Busy { token } | Outcome::Given { token } => {
+                self.put_number("token", u64::from(*token))
             }
             _ => Ok(()),
         }

@@ -7,7 +7,7 @@ ghost use Rattle.wl_elem.specs.Links.{link_limit};
 ghost use Rattle.wl_history.specs.Ends.{address_on as address_of_end};
 ghost use Rattle.wl_scene.specs.Answering.{Gives};
 ghost use Rattle.wl_scene.specs.Members.{is_among, below, number_at, each_of};
-ghost use Rattle.wl_scene.specs.Scene.{link_of, all_above as are_all_above, ascend as do_ascend, addresses_of, all_apart, are_links as may_be_links, links_at};
+ghost use Rattle.wl_scene.specs.Head.{link_of, all_above as are_all_above, ascend as do_ascend, addresses_of, all_apart, are_links as may_be_links, links_at};
 ghost use Rattle.wl_scene.specs.Sound.{IsSoundLink, AreSoundLinks};
 
 use crate::fault::Stop;

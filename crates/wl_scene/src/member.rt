@@ -3,7 +3,7 @@
 ghost use Rattle.std.specs.Prelude.{◌≡◌, ◌<◌, ◌^◌, ◌≤◌, map, option_map, option_and_then, IfSome, length};
 ghost use Rattle.serde_json.specs.Find.{get};
 ghost use Rattle.serde_json.specs.View.{view, members_view, items_view};
-ghost use Rattle.wl_scene.specs.Members.{is_among, are_among, has_only as only_has, whole_at, text_at, list_at, octets_at, has_number as has_this_number, has_text as has_this_text};
+ghost use Rattle.wl_scene.specs.Members.{is_among, are_among, has_only as only_has, whole_at, text_at, list_at, octets_at, has_number as has_this_number, has_text as has_this_text, bool_at, has_true as has_this_true};
 
 use hex::FromHex;
 use serde_json::{Map, Value};
@@ -92,6 +92,26 @@ pub fn has_text(value: &Value, name: &str, word: &str) -> bool
 {
     match text(value, name) {
         Some(text) => text == word,
+        None => false,
+    }
+}
+
+/// True or false, where a member is one of them.
+pub fn boolean(value: &Value, name: &str) -> Option<bool>
+    ensures { result ≡ bool_at name.now (view value.now) }
+{
+    match value.get(name) {
+        Some(member) => member.as_bool(),
+        None => None,
+    }
+}
+
+/// Whether a member is true.
+pub fn has_true(value: &Value, name: &str) -> bool
+    ensures { result ≡ has_this_true name.now (view value.now) }
+{
+    match boolean(value, name) {
+        Some(is) => is,
         None => false,
     }
 }

@@ -3,40 +3,47 @@
 ghost use Rattle.std.specs.Prelude.{◌≡◌, ℕ, List, Result, IfOk, IfErr};
 ghost use Rattle.serde_json.specs.View.{view, items_view};
 ghost use Rattle.wl_scene.specs.declared.scenario.Scenario.{Scenario};
-ghost use Rattle.wl_history.specs.Ends.{links_in};
 ghost use Rattle.wl_scene.specs.Answering.{Answers, AnswersOnly, IsUnread};
-ghost use Rattle.wl_scene.specs.Scene.{first_by, end_start, start_of, with_commands, scene_of, IsJson, SceneOf};
+ghost use Rattle.wl_scene.specs.Scene.{first_by, denies as does_deny, end_start, start_of, with_commands, scene_of, IsJson, SceneOf};
 ghost use Rattle.wl_scene.specs.Sound.{IsSound, IsSoundHead};
 
-use crate::account::no_links;
 use crate::fault::{SceneFault, Stop};
-use crate::first::First;
+use crate::first::{First, Firsts};
 use crate::head::{Head, command_list, read_head};
 use crate::items::{are_few, items};
+use crate::policy::Denials;
 use crate::scenario::Scenario;
 use serde_json::Value;
 use std::alloc::Global;
-use wl_elem::{EndId, LinkSet, Memory};
-use wl_history::{EndStart, LinkStart, LinkStarts, Start};
+use wl_elem::{EndId, Memory};
+use wl_history::{EndStart, LinkStarts, Start};
 
-/// The set of these links.
-fn set_of(links: &[LinkStart]) -> LinkSet
-    ensures { result ≡ links_in 0 links.now }
+/// What an end sends first.
+fn first_of(end: EndId, firsts: &Firsts) -> First
+    ensures { result ≡ first_by end firsts.now }
 {
-    let mut set = no_links();
-    'links: for link in links {
-        set = set.with(link.id);
+    match end {
+        EndId::Ap => firsts.ap,
+        EndId::Sta => firsts.sta,
     }
-    set
+}
+
+/// Whether an end denies each mapping.
+fn denies(end: EndId, denials: &Denials) -> bool
+    ensures { result ≡ does_deny end denials.now }
+{
+    match end {
+        EndId::Ap => denials.ap,
+        EndId::Sta => denials.sta,
+    }
 }
 
 /// What an end starts with.
-fn start_of_end(alloc: Global, end: EndId, first: First, head: &Head) -> Result<EndStart, Memory>
-    requires { first ≡ first_by end head.now.firsts }
+fn start_of_end(alloc: Global, end: EndId, head: &Head) -> Result<EndStart, Memory>
     ensures { IfOk result (λ start. start ≡ end_start end head.now) }
 {
     let key = head.key;
-    let accept = set_of(head.links.as_slice());
+    let first = first_of(end, &head.firsts);
     let newest = head.firsts.ap.key.max(head.firsts.sta.key);
     let links = LinkStarts::from_slice(alloc, head.links.as_slice())?;
     Ok(EndStart {
@@ -45,10 +52,10 @@ fn start_of_end(alloc: Global, end: EndId, first: First, head: &Head) -> Result<
         sta: head.sta,
         key,
         links,
-        associated: true,
+        associated: head.associated,
         window: head.window,
-        accept,
-        deny: false,
+        accept: head.accept,
+        deny: denies(end, &head.denials),
         first_key: first.key,
         first_pn: first.pn,
         newest,
@@ -59,8 +66,8 @@ fn start_of_end(alloc: Global, end: EndId, first: First, head: &Head) -> Result<
 fn start(alloc: Global, head: &Head) -> Result<Start, Memory>
     ensures { IfOk result (λ start. start ≡ start_of head.now) }
 {
-    let ap = start_of_end(alloc, EndId::Ap, head.firsts.ap, head)?;
-    let sta = start_of_end(alloc, EndId::Sta, head.firsts.sta, head)?;
+    let ap = start_of_end(alloc, EndId::Ap, head)?;
+    let sta = start_of_end(alloc, EndId::Sta, head)?;
     Ok(Start { ap, sta })
 }
 
@@ -119,11 +126,13 @@ fn value_of(alloc: Global, text: &[u8]) -> Result<Value, SceneFault>
 /// Ok exactly where the text is one: UTF-8 and JSON, an object with the members `version` (1), `ap`
 /// and `sta` (different addresses of 12 hex digits), `key` (32 hex digits), `links` (1 to 4 objects of
 /// `id`, below 15 and ascending, `ap` and `sta`, no two addresses of an end the same) and, where they
-/// are there, `window` (1 to 256, else 64), `first` (objects of `end`, `key` and `pn`, else key 0 and
-/// packet number 1) and `before` (the commands). Else Refused with the place: 0 where it isn't JSON,
-/// where a member outside the commands is wrong and where the commands count as more than 65,536, loops
-/// expanded; else the number of the first wrong command, counted from 1, a loop before the commands in
-/// its body and each of these once. `Memory` where there was none; it says nothing of the text.
+/// are there, `associated` (else true), `window` (1 to 256, else 64), `accept` (ascending IDs of the
+/// links, else all), `deny` (a list of `ap` and `sta`, none twice, else empty), `first` (objects of
+/// `end`, `key` and `pn`, else key 0 and packet number 1) and `before` (the commands). Else Refused with
+/// the place: 0 where it isn't JSON, where a member outside the commands is wrong and where the commands
+/// count as more than 65,536, loops expanded; else the number of the first wrong command, counted from
+/// 1, a loop before the commands in its body and each of these once. `Memory` where there was none; it
+/// says nothing of the text.
 pub fn read_scenario(alloc: Global, text: &[u8]) -> Result<Scenario, SceneFault>
     ensures read { Answers result (SceneOf text.now) }
     ensures only { (reading : Result Scenario ℕ) → SceneOf text.now reading → AnswersOnly result reading }

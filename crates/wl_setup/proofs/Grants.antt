@@ -1,6 +1,6 @@
 -- Which links are set up.
 use Rattle.std.proofs.Common.{◌≡◌, ℕ, inl, inr, ◌<◌, Bool, true, false, List, Option, Some, None, refl, sym, ap, ◌∙◌, subst, eqb-true, is_some}
-use Rattle.std.proofs.lemmas.Bool.{false≢true}
+use Rattle.std.proofs.lemmas.Bool.{and_from, and_parts, false≢true}
 use Rattle.std.specs.Prelude.{◌==◌, ◌&&◌, bytes_eq, option_map, if◌then◌else◌}
 use Rattle.std.specs.Bool.{Decides}
 use Rattle.std.proofs.lemmas.Bool.Decides.{same_from_decides, eqb_tells}
@@ -18,10 +18,6 @@ use Rattle.wl_setup.proofs.Tables.{entry_for-each_link}
 use Rattle.wl_setup.proofs.Sets.{has-links_that, all_links-Decides}
 use Rattle.wl_setup.proofs.Requests.{same_ask-Decides}
 use Rattle.wl_setup.proofs.Replies.{answer_of}
-
-both : (a b : Bool) → (a && b) ≡ true → (a ≡ true) × (b ≡ true)
-both true b h = (refl, h)
-both false b h = cc
 
 fit : (a b : Bool) → (a ≡ true → b ≡ true) → (if a then b else true) ≡ true
 fit true b h = h refl
@@ -46,7 +42,7 @@ kept_named false entry h = refl
 
 pub choice_named : (station : StationState) (on links link : ℕ) → is_choice station on links ≡ true → link < 15 → is_named (ask_for station on links).macs link ≡ has_link links link
 choice_named station on links link is low =
-    let fits = (all_links-Decides (is_fit station.macs links)).0 (both _ _ is).1 in
+    let fits = (all_links-Decides (is_fit station.macs links)).0 (and_parts _ _ is).1 in
     ap (λ (o : Option (List ℕ)). is_some o) (entry_for-each_link (address_on station.macs links) link low) ∙ kept_named (has_link links link) (entry_for station.macs link) (fits link low)
 
 -- only a known, accepted and powered link succeeds, and that beside a carrying link that does
@@ -74,7 +70,7 @@ granted : (ap' : ApState) (ask : SetupAsk) (powered link : ℕ) → link < 15 �
 granted ap' ask powered link low has =
     let status = status_given (is_carried ap' ask powered) ap' ask powered in
     let said = (first_reply ap' ask powered).status in
-    let is : (is_named ask.macs link ≡ true) × (is_success (entry_for said link) ≡ true) = both _ _ (sym (has-links_that (is_granted ask.macs said) link low) ∙ has) in
+    let is : (is_named ask.macs link ≡ true) × (is_success (entry_for said link) ≡ true) = and_parts _ _ (sym (has-links_that (is_granted ask.macs said) link low) ∙ has) in
     let entry : is_success (asked_status ask.macs status link) ≡ true = sym (ap is_success (entry_for-each_link (asked_status ask.macs status) link low)) ∙ is.1 in
     let facts = succeeding (is_carried ap' ask powered) (is_address (entry_for ap'.macs link) (entry_for ask.macs link)) (has_link ap'.accept link) (has_link powered link) (given_success ask.macs status link (entry_for ask.macs link) refl entry) in
     record {
@@ -104,7 +100,7 @@ confirmed station reply link None is low before has = absurd (false≢true (sym 
 confirmed station reply link (Some ask) is low before has =
     either (λ (s : ℕ). has_link s link ≡ true → IsConfirmed station reply link) (is_success (entry_for reply.status reply.on)) (links_granted ask.macs reply.status) station.links
     (λ test has.
-    let parts : (is_named ask.macs link ≡ true) × (is_success (entry_for reply.status link) ≡ true) = both _ _ (sym (has-links_that (is_granted ask.macs reply.status) link low) ∙ has) in
+    let parts : (is_named ask.macs link ≡ true) × (is_success (entry_for reply.status link) ≡ true) = and_parts _ _ (sym (has-links_that (is_granted ask.macs reply.status) link low) ∙ has) in
     record { ask = ask; awaited = is; asked = parts.0; succeeds = success_of (entry_for reply.status link) parts.1 })
     (λ test has. absurd (false≢true (sym before ∙ has)))
     has
@@ -161,8 +157,8 @@ repeated_in : (ap' : ApState) (ask : SetupAsk) (reply : SetupReply) (powered lat
 repeated_in ap' ask reply powered later joining answered linked =
     let first = first_reply ap' ask powered in
     let then_ = associated ap' ask first in
-    let tests = both (bytes_eq ask.mld ap'.mld && (ap'.links == 0)) (is_carried ap' ask powered) joining in
-    let address : (bytes_eq ask.mld ap'.mld ≡ true) × ((ap'.links == 0) ≡ true) = both (bytes_eq ask.mld ap'.mld) (ap'.links == 0) tests.0 in
+    let tests = and_parts (bytes_eq ask.mld ap'.mld && (ap'.links == 0)) (is_carried ap' ask powered) joining in
+    let address : (bytes_eq ask.mld ap'.mld ≡ true) × ((ap'.links == 0) ≡ true) = and_parts (bytes_eq ask.mld ap'.mld) (ap'.links == 0) tests.0 in
     let had : (then_.links == 0) ≡ false = unlinked then_.links linked in
     let is_first : first ≡ reply =
     some_is first reply (sym (ap (λ (r : SetupReply). Some r) (pick (ap'.links == 0) first (later_reply ap'.joined ask) address.1)) ∙ sym (pick (bytes_eq ask.mld ap'.mld) (Some (if ap'.links == 0 then first else later_reply ap'.joined ask)) None address.0) ∙ answered) in
@@ -187,28 +183,24 @@ beside_itself : (carried : Bool) (status : ℕ) → carried ≡ true → (status
 beside_itself true status is h = h
 beside_itself false status is h = absurd (false≢true is)
 
-both_true : (a b : Bool) → a ≡ true → b ≡ true → (a && b) ≡ true
-both_true true b is h = h
-both_true false b is h = is
-
 pub carrying_set_up : (ap' : ApState) (ask : SetupAsk) (powered : ℕ) → ask.on < 15 → is_named ask.macs ask.on ≡ true → is_joining ap' ask powered ≡ true → has_link (after_ask ap' ask powered).links ask.on ≡ true
 carrying_set_up ap' ask powered low named joining =
-    let carried = (both (bytes_eq ask.mld ap'.mld && (ap'.links == 0)) (is_carried ap' ask powered) joining).1 in
+    let carried = (and_parts (bytes_eq ask.mld ap'.mld && (ap'.links == 0)) (is_carried ap' ask powered) joining).1 in
     let status = status_given (is_carried ap' ask powered) ap' ask powered in
     let said = (first_reply ap' ask powered).status in
     let succeeds = success_given ask.macs status ask.on (entry_for ask.macs ask.on) refl named (beside_itself (is_carried ap' ask powered) (status_on ap' ask powered ask.on) carried carried) in
     ap (λ (s : ApState). has_link s.links ask.on) (pick (is_joining ap' ask powered) (associated ap' ask (first_reply ap' ask powered)) ap' joining)
     ∙ has-links_that (is_granted ask.macs said) ask.on low
-    ∙ both_true (is_named ask.macs ask.on) (is_success (entry_for said ask.on)) named (ap is_success (entry_for-each_link (asked_status ask.macs status) ask.on low) ∙ succeeds)
+    ∙ and_from (is_named ask.macs ask.on) (is_success (entry_for said ask.on)) named (ap is_success (entry_for-each_link (asked_status ask.macs status) ask.on low) ∙ succeeds)
 
 pub choice_words : (station : StationState) (on links : ℕ) → (is_choice station on links ≡ true → IsChoice station on links) × (IsChoice station on links → is_choice station on links ≡ true)
 choice_words station on links =
     let fits = all_links-Decides (is_fit station.macs links) in (
       λ h.
-          let parts : (has_link links on ≡ true) × (all_links (is_fit station.macs links) ≡ true) = both (has_link links on) (all_links (is_fit station.macs links)) h in
+          let parts : (has_link links on ≡ true) × (all_links (is_fit station.macs links) ≡ true) = and_parts (has_link links on) (all_links (is_fit station.macs links)) h in
           record {
             carrying = parts.0;
             known = λ link low asked. unfit (has_link links link) (is_named station.macs link) (fits.0 parts.1 link low) asked;
           },
-      λ is. both_true (has_link links on) (all_links (is_fit station.macs links)) is.carrying (fits.1 (λ link low. fit (has_link links link) (is_named station.macs link) (λ asked. is.known link low asked))),
+      λ is. and_from (has_link links on) (all_links (is_fit station.macs links)) is.carrying (fits.1 (λ link low. fit (has_link links link) (is_named station.macs link) (λ asked. is.known link low asked))),
     )

@@ -1,7 +1,8 @@
 -- A bitmap of links passes the test exactly where it has a link, and only links that are set up.
-use Rattle.std.proofs.Common.{◌≡◌, ℕ, ◌<◌, ◌≤◌, Bool, true, false, eq-eqb, eqb-true, refl, ap, subst, arith, inl, inr, bit_and}
-use Rattle.std.specs.Prelude.{◌&&◌, ◌==◌, ◌↔◌, not, IsTrue}
+use Rattle.std.proofs.Common.{◌≡◌, ℕ, ◌<◌, ◌≤◌, true, false, eq-eqb, eqb-true, ap, subst, arith, inl, inr, bit_and}
+use Rattle.std.specs.Prelude.{◌==◌, ◌↔◌, not, IsTrue}
 use Rattle.std.specs.Int.{bit_at, trailing_zeros, w16}
+use Rattle.std.proofs.lemmas.Bool.{and_from, and_parts}
 use Rattle.std.proofs.lemmas.Bool.Decides.{eqb_tells}
 use Rattle.std.proofs.lemmas.Nat.{and_le_r}
 use Rattle.std.proofs.lemmas.Nat.Bits.{bit_at-trailing_zeros, bit_at_above, bit_at-zero}
@@ -24,9 +25,6 @@ positive n some =
       | inr other ↦ omega (arith, other.1)
     ]
 
-pub both : (a b : Bool) → a ≡ true → b ≡ true → (a && b) ≡ true
-both a b p q = grind (arith, p, q)
-
 -- a bitmap that isn't 0 passes exactly where it has no other links
 passes_exactly : (links set : ℕ) → set < set_limit → (set ≡ 0 → ⊥) → IsTrue (bit_and set links == set) ↔ IsTidSet links set
 passes_exactly links set low some = (
@@ -42,14 +40,6 @@ tid_passes links set bits others is are low some =
     subst (λ (s : ℕ). IsTrue (bit_and bits others == bits) ↔ IsTidSet links s) is
     (subst (λ (l : ℕ). IsTrue (bit_and bits others == bits) ↔ IsTidSet l bits) are (passes_exactly others bits low some))
 
-first_of_both : (a b : Bool) → (a && b) ≡ true → a ≡ true
-first_of_both true b h = refl
-first_of_both false b h = h
-
-second_of_both : (a b : Bool) → (a && b) ≡ true → b ≡ true
-second_of_both true b h = h
-second_of_both false b h = absurd (cc)
-
 isnt_none : (set : ℕ) → (set ≡ 0 → ⊥) → not (set == 0) ≡ true
 isnt_none set some =
     elim (eqb_tells set 0) [
@@ -63,11 +53,11 @@ is_some set test none = let passed : not (set == 0) ≡ false = ap not (eq-eqb s
 pub tid_test : (links set : ℕ) → set < set_limit → IsTidSet links set → is_tid_set links set ≡ true
 tid_test links set low is =
     let has_link : (set ≡ 0 → ⊥) = λ none. let bit : bit_at set is.some.0 ≡ 1 = eqb-true _ _ is.some.2 in omega (arith, bit, ap (λ (n : ℕ). bit_at n is.some.0) none, bit_at-zero is.some.0) in
-    both _ _ (isnt_none set has_link) (eq-eqb (bit_and set links) set (and-subset set links low is.only))
+    and_from _ _ (isnt_none set has_link) (eq-eqb (bit_and set links) set (and-subset set links low is.only))
 
 pub tid_told : (links set : ℕ) → links < set_limit → is_tid_set links set ≡ true → IsTidSet links set
 tid_told links set low test =
-    let within : bit_and set links ≡ set = eqb-true _ _ (second_of_both (not (set == 0)) _ test) in record {
-      some = has_some set (omega (arith, and_le_r set links, within)) (positive set (is_some set (first_of_both _ _ test)));
+    let within : bit_and set links ≡ set = eqb-true _ _ (and_parts (not (set == 0)) _ test).1 in record {
+      some = has_some set (omega (arith, and_le_r set links, within)) (positive set (is_some set (and_parts _ _ test).0));
       only = subset-and set links within;
     }

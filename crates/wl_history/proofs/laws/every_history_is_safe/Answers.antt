@@ -10,4 +10,4 @@ returns c =
       by_pair = c.in_pair_order.ensures;
       one_booking = λ lanes place other a b rule x y keys pns. c.booked_once.ensures lanes place other a b rule x y (and_from _ _ (eq-eqb a.key b.key keys) (eq-eqb a.pn b.pn pns));
     } in
-    safe c.laws_below.ensures.numbers c.laws_below.ensures.windows orders
+    safe c.laws_below.ensures.numbers c.laws_below.ensures.windows c.laws_below.ensures.messages orders

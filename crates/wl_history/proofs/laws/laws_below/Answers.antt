@@ -16,3 +16,6 @@ returns-clause-windows c = record {
   acking = c.booked_after_ack.ensures;
   giving_up = c.booked_after_giving_up.ensures;
 }
+
+pub returns-clause-messages : goal.returns-clause-messages
+returns-clause-messages c = record { read = c.a_message_is_read.ensures; short = c.a_message_is_short.ensures }

@@ -1,6 +1,6 @@
 use Rattle.std.proofs.Common.{◌≡◌, ◌+◌, ◌≤◌, drop}
 use Rattle.serde_json.specs.View.{items_view}
-use Rattle.wl_scene.specs.Commands.{count_all}
+use Rattle.wl_scene.specs.Items.{count_all}
 use Rattle.wl_scene.proofs.items.are_few.Given as goal
 
 -- with what is left the count is that of all

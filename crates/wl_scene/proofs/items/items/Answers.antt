@@ -1,7 +1,7 @@
 use Rattle.std.proofs.Common.{rules, ◌<◌, ◌+◌, ◌^◌, length, sym, ap, ◌∙◌, arith}
 use Rattle.serde_json.specs.View.{view}
 use Rattle.serde_json.specs.declared.value.Value.{Value}
-use Rattle.wl_scene.specs.Commands.{item_of}
+use Rattle.wl_scene.specs.Items.{item_of}
 use Rattle.wl_scene.proofs.Counts.{before_place, places_more}
 use Rattle.wl_scene.proofs.Scripts.{item_more}
 use Rattle.wl_scene.proofs.items.items.Goals as goal

@@ -1,6 +1,6 @@
 use Rattle.std.proofs.Common.{◌≡◌, ◌+◌, ◌≤◌, drop}
 use Rattle.serde_json.specs.View.{items_view}
-use Rattle.wl_scene.specs.Commands.{count_all}
+use Rattle.wl_scene.specs.Items.{count_all}
 use Rattle.wl_scene.proofs.Scripts.{resumed, reading_all}
 use Rattle.wl_scene.proofs.items.items.Given as goal
 

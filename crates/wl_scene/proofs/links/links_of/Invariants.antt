@@ -1,6 +1,6 @@
 use Rattle.std.proofs.Common.{◌≡◌, drop}
 use Rattle.std.specs.List.{AllByRecursion}
-use Rattle.wl_scene.specs.Scene.{link_of}
+use Rattle.wl_scene.specs.Head.{link_of}
 use Rattle.wl_scene.specs.Sound.{IsSoundLink}
 use Rattle.wl_scene.proofs.Scripts.{behind, reading_each}
 use Rattle.wl_scene.proofs.links.links_of.Given as goal

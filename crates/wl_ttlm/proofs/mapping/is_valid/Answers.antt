@@ -3,7 +3,7 @@ use Rattle.std.proofs.lemmas.List.{take_all}
 use Rattle.std.proofs.lemmas.List.Elements.{All-more, All-get_or}
 use Rattle.std.proofs.lemmas.List.Folds.{list_all_more}
 use Rattle.wl_ttlm.specs.Mapping.{IsMapping, IsTidSet, is_tid_set}
-use Rattle.wl_ttlm.proofs.Mappings.{both}
+use Rattle.std.proofs.lemmas.Bool.{and_from}
 use Rattle.wl_ttlm.proofs.mapping.is_valid.Goals as goal
 
 pub returns-then-not-is_tid_set-clause-valid : goal.returns-then-not-is_tid_set-clause-valid
@@ -20,7 +20,7 @@ sets-preserved c =
     let d = c.set-item.result in
     let inside : i < length sets = omega arith in record {
       so_far = All-more (IsTidSet c.args.links) sets i d inside c.sets.invariant.so_far (c.if-not-is_tid_set.ensures.exact.0 refl);
-      tested = list_all_more (is_tid_set c.args.links) sets i d inside ∙ both _ _ c.sets.invariant.tested (sym c.if-not-is_tid_set.ensures.test);
+      tested = list_all_more (is_tid_set c.args.links) sets i d inside ∙ and_from _ _ c.sets.invariant.tested (sym c.if-not-is_tid_set.ensures.test);
     }
 
 pub returns-clause-valid : goal.returns-clause-valid

@@ -64,3 +64,7 @@ pub returns-in-Forge-clause-unforged : goal.returns-in-Forge-clause-unforged
 returns-in-Forge-clause-unforged g c =
     let made = λ (number : ℕ). commands.Forge c.in-Forge.end c.in-Forge.link c.in-Forge.lane c.in-Forge.key c.in-Forge.pn number c.in-Forge.body in
     unforged_if (g.Z.Sealer.text c.args.z.now) c.args.self.now c.args.command.now (made c.from.result) c.forge.result (c.in-Forge.is ∙ ap made (sym c.from.ensures)) c.forge.ensures.unforged
+
+pub returns-in-Inject-clause-unforged : goal.returns-in-Inject-clause-unforged
+returns-in-Inject-clause-unforged g c =
+    unforged_if (g.Z.Sealer.text c.args.z.now) c.args.self.now c.args.command.now (commands.Inject c.in-Inject.end c.in-Inject.link c.as_slice.result.now) c.hear.result (c.in-Inject.is ∙ ap (commands.Inject c.in-Inject.end c.in-Inject.link) (sym c.as_slice.ensures)) c.hear.ensures.unforged

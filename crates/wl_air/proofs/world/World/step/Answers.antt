@@ -76,7 +76,7 @@ returns-in-Err-clause-unchanged g c =
 pub act-requires-clause-fits : goal.act-requires-clause-fits
 act-requires-clause-fits g c =
     subst (λ (x : Command). CanDo x c.self.inside.air) (sym (noted c.args.thread c.args.command c.latest-command.result.now outcomes.Nothing c.self.inside.journal.steps c.push.new.self c.in_ok-push.ensures.ok c.latest-command.ensures))
-    (can_do c.self.inside.journal.start c.self.inside.air (length c.self.inside.journal.steps) c.args.command c.self.invariant (subst (λ (w : WorldState). Fits w.start c.args.command) (sym c.self.view_is) c.requires.fits))
+    (can_do c.self.inside.journal.start c.self.inside.air (length c.self.inside.journal.steps) c.args.command c.self.invariant (subst (λ (w : WorldState). Fits w.start c.args.command) (sym c.self.view_is) c.requires.fits) c.test.ensures)
 
 pub act-requires-clause-roomy : goal.act-requires-clause-roomy
 act-requires-clause-roomy g c = both_roomy c.self.inside.journal.start c.self.inside.air c.self.inside.journal.steps c.self.invariant (subst (λ (w : WorldState). length w.steps < step_limit) (sym c.self.view_is) c.requires.room)

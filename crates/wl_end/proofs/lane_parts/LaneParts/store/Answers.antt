@@ -6,8 +6,8 @@ use Rattle.wl_replay.specs.Replay.{last_of}
 use Rattle.wl_history.specs.EndState.{LaneState, let_up}
 use Rattle.wl_end.proofs.Releasing.{let_up_few}
 use Rattle.wl_end.proofs.Rising.{ups_fit}
-use Rattle.wl_end.proofs.lane_parts.LaneParts.hear.Goals as goal
-use Rattle.wl_end.proofs.lane_parts.LaneParts.hear.Goals.{After-arrive, In-Ok}
+use Rattle.wl_end.proofs.lane_parts.LaneParts.store.Goals as goal
+use Rattle.wl_end.proofs.lane_parts.LaneParts.store.Goals.{After-arrive, In-Ok}
 
 -- there is room for all that goes up
 rises : (c : In-Ok) → length c.arrive.new.up.items ≤ c.due_on_arrival-most.result

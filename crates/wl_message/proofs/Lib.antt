@@ -1,0 +1,4 @@
+pub mod Maps
+pub mod Again
+pub mod Spelled
+pub mod Answered

@@ -6,6 +6,7 @@
 //! `unreadable`.
 #![tactic(auto)]
 
+mod joining;
 mod mapping;
 mod message;
 mod setup;
@@ -21,6 +22,10 @@ fn answer(alloc: Global, line: &str) -> Option<String> {
     match words.as_slice() {
         ["station_setup", words @ ..] => setup::station_setup(alloc, words),
         ["ap_setup", words @ ..] => setup::ap_setup(alloc, words),
+        ["ask_body", words @ ..] => joining::ask_body(alloc, words),
+        ["reply_body", words @ ..] => joining::reply_body(alloc, words),
+        ["ask_in", words @ ..] => joining::ask_in(alloc, words),
+        ["reply_in", words @ ..] => joining::reply_in(alloc, words),
         ["default_mapping", words @ ..] => mapping::default_mapping(alloc, words),
         ["mapping", words @ ..] => mapping::mapping(alloc, words),
         ["map_end", words @ ..] => mapping::map_end(alloc, words),

@@ -8,10 +8,16 @@ use std::alloc::Global;
 use wl_setup::{ApSetup, SetupAsk, SetupRefusal, SetupReply, StationSetup};
 
 /// A request: the carrying link, the MLD address and the addresses.
-fn ask_text(alloc: Global, ask: &SetupAsk) -> Option<String> {
+pub fn ask_text(alloc: Global, ask: &SetupAsk) -> Option<String> {
     let mld = hex::encode(alloc, &ask.mld.octets()).ok()?;
     let macs = addresses_text(alloc, &ask.macs)?;
     format!(in alloc; "{}:{mld}:{macs}", ask.on.get()).ok()
+}
+
+/// A reply: the carrying link and the statuses.
+pub fn reply_text(alloc: Global, reply: &SetupReply) -> Option<String> {
+    let statuses = statuses_text(alloc, &reply.status)?;
+    format!(in alloc; "{}:{statuses}", reply.on.get()).ok()
 }
 
 /// The name of a refusal.
@@ -86,10 +92,7 @@ fn replied(alloc: Global, ap: &mut ApSetup, ask: &SetupAsk, powered: &str) -> Op
         return None;
     }
     match ap.on_ask(ask, links_of(powered)?) {
-        Some(reply) => {
-            let statuses = statuses_text(alloc, &reply.status)?;
-            format!(in alloc; "{}:{statuses}", reply.on.get()).ok()
-        }
+        Some(reply) => reply_text(alloc, &reply),
         None => text(alloc, "none"),
     }
 }

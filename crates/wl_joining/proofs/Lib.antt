@@ -1,0 +1,11 @@
+pub mod Writing
+pub mod Tables
+pub mod Only
+pub mod Taken
+pub mod Once
+pub mod Links
+pub mod Profiles
+pub mod Elements
+pub mod Requests
+pub mod Responses
+pub mod Again

@@ -1,0 +1,6 @@
+use Rattle.std.proofs.Common.{ℕ, ◌<◌, IfSome}
+use Rattle.wl_setup.specs.Table.{entry_for}
+use Rattle.wl_joining.proofs.facts.statuses_facts.Given as goal
+
+abbrev pub invariant-links : goal.invariant-links
+invariant-links l = (link : ℕ) → link < l.id → IfSome (entry_for l.status link) (λ n. n < 65536)
